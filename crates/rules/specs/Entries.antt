@@ -18,19 +18,21 @@ use Rattle.rules.specs.declared.Synced.{Synced}
 use Rattle.rules.specs.declared.Synced.the-variants as Synced
 
 -- the default class where the tree is now full, else the class it had
-unfoldable pub ifFull : Config → ℕ → ℕ → ℕ
-ifFull c k free = pick (eqb free (treeFrames (c .order))) (c .default) k
+unfoldable pub ifFull : ℕ → ℕ → ℕ → ℕ → ℕ
+ifFull z d k free = pick (eqb free (treeFrames z)) d k
 
 -- if now 2,048 and policy(entry class, default) is not Invalid, class becomes default
-unfoldable pub classAfter : Config → ℕ → ℕ → Kind → ℕ
-classAfter c k free Invalid = k
-classAfter c k free Steal = ifFull c k free
-classAfter c k free Demote = ifFull c k free
-classAfter c k free (Match r) = ifFull c k free
+unfoldable pub classAfter : ℕ → ℕ → ℕ → ℕ → Kind → ℕ
+classAfter z d k free Invalid = k
+classAfter z d k free Steal = ifFull z d k free
+classAfter z d k free Demote = ifFull z d k free
+classAfter z d k free (Match r) = ifFull z d k free
 
 -- entry put: add; then the class, reserved or not
 unfoldable pub putOf : Config → Tree → ℕ → Tree
-putOf c t n = entry (t .free + n) (t .reserved) (classAfter c (t .class) (t .free + n) (policy c (t .class) (c .default) (t .free + n)))
+putOf c t n =
+    entry (t .free + n) (t .reserved)
+    (classAfter (c .order) (c .default) (t .class) (t .free + n) (policy c (t .class) (c .default) (t .free + n)))
 
 -- Match and Demote set the requested class k, Steal keeps the entry's, Invalid refuses
 unfoldable pub stealKind : Tree → ℕ → ℕ → Kind → Took

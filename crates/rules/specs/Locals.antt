@@ -67,17 +67,17 @@ unfoldable pub hasEnough : ℕ → Local → Name → ℕ → Bool
 hasEnough z l name n = pick (l .present) (pick (inTree z (l .row) name) (leb n (l .free)) false) false
 
 -- locals of class k from the given index cyclically: the place of the one that is d further
-unfoldable pub cyclic : Config → ℕ → ℕ → ℕ → ℕ
-cyclic c k from d = slot c k ((from + d) % localsOf c k)
+unfoldable pub cyclic : List ℕ → ℕ → ℕ → ℕ → ℕ
+cyclic ps k from d = slot ps k ((from + d) % localsOf ps k)
 
 -- how far the first with enough is from the given index
-unfoldable pub firstLocal : Config → List ℕ → ℕ → ℕ → Name → ℕ → Found
-firstLocal c ls k from name n = firstIn (λ d. hasEnough (c .order) (localAt ls (cyclic c k from d)) name n) 0 (localsOf c k)
+unfoldable pub firstLocal : ℕ → List ℕ → List ℕ → ℕ → ℕ → Name → ℕ → Found
+firstLocal z ps ls k from name n = firstIn (λ d. hasEnough z (localAt ls (cyclic ps k from d)) name n) 0 (localsOf ps k)
 
 -- the local of class k, or else the next class
-unfoldable pub payerOr : Config → ℕ → ℕ → Found → (Unit {0} → Payer) → Payer
-payerOr c k from (At d) next = Payer.Local k (cyclic c k from d)
-payerOr c k from Nothing next = next tt
+unfoldable pub payerOr : List ℕ → ℕ → ℕ → Found → (Unit {0} → Payer) → Payer
+payerOr ps k from (At d) next = Payer.Local k (cyclic ps k from d)
+payerOr ps k from Nothing next = next tt
 
 -- kind Steal or Match
 unfoldable pub mayPay : Kind → Bool
@@ -97,8 +97,8 @@ mayMove (Match r) = false
 unfoldable pub payerIn : (Kind → Bool) → Config → List ℕ → ℕ → ℕ → Name → ℕ → ℕ → ℕ → Payer
 payerIn p c ls k from name n i zero = Payer.Nobody
 payerIn p c ls k from name n i (suc m) =
-    ifte (both (configured c ((k + i) % 8)) (p (policy c k ((k + i) % 8) n)))
-    (λ _. payerOr c ((k + i) % 8) from (firstLocal c ls ((k + i) % 8) from name n) (λ _. payerIn p c ls k from name n (i + 1) m))
+    ifte (both (configured (c .places) ((k + i) % 8)) (p (policy c k ((k + i) % 8) n)))
+    (λ _. payerOr (c .places) ((k + i) % 8) from (firstLocal (c .order) (c .places) ls ((k + i) % 8) from name n) (λ _. payerIn p c ls k from name n (i + 1) m))
     (λ _. payerIn p c ls k from name n (i + 1) m)
 
 -- steal goes over classes k, k+1, .. modulo 8 whose kind is Steal or Match

@@ -58,7 +58,7 @@ pairFormed z w = pick (eqb (kindOf w) 3) (leb (cutOf w) (treeFrames z)) (ltb w 4
 unfoldable pub pairAccepted : Config → ℕ → ℕ → Bool
 pairAccepted c o e =
     both (pairFormed (c .order) (pairOf c o e))
-    (pick (configured c o) (pick (configured c e) true (eqb (kindAt c o e) 0)) (eqb (kindAt c o e) 0))
+    (pick (configured (c .places) o) (pick (configured (c .places) e) true (eqb (kindAt c o e) 0)) (eqb (kindAt c o e) 0))
 
 -- a table of that form
 unfoldable pub tableFormed : Config → Bool
@@ -73,7 +73,7 @@ implies false b = true
 -- if (o, e) is good and (k, o) is Demote then (k, e) is good
 unfoldable pub rulesAt : Config → ℕ → ℕ → ℕ → Bool
 rulesAt c o e k =
-    both (implies (configured c o) (good c o o))
+    both (implies (configured (c .places) o) (good c o o))
     (implies (good c o e)
     (both (implies (ltb 0 (kindAt c e (c .default))) (good c o (c .default)))
     (implies (eqb (kindAt c k o) 2) (good c k e))))
@@ -92,7 +92,7 @@ placesAccepted c = allBelow 8 (λ k. leb (getD (c .places) k 0) 33)
 
 -- the default is one of the classes 0 to 7, and configured
 unfoldable pub defaultAccepted : Config → Bool
-defaultAccepted c = both (ltb (c .default) 8) (configured c (c .default))
+defaultAccepted c = both (ltb (c .default) 8) (configured (c .places) (c .default))
 
 -- header and policy table as a start accepts them
 unfoldable pub accepted : Config → Bool

@@ -34,24 +34,28 @@ abbrev pub config : Header → List ℕ → Config
 config h pairs = record { order = 11; frames = h .frames; default = h .default; places = h .places; pairs = pairs }
 
 -- trees n = F / 2,048 rounded up
-unfoldable pub treeCount : Config → ℕ
-treeCount c = (c .frames + (treeFrames (c .order) - 1)) / treeFrames (c .order)
+unfoldable pub treeCount : ℕ → ℕ → ℕ
+treeCount z f = (f + (treeFrames z - 1)) / treeFrames z
 
--- each class is unconfigured or has 0 to 32 locals
-unfoldable pub configured : Config → ℕ → Bool
-configured c k = ltb 0 (getD (c .places) k 0)
+-- the trees of a configuration
+abbrev pub trees : Config → ℕ
+trees c = treeCount (c .order) (c .frames)
+
+-- each class is unconfigured (place 0) or has locals (place: their number plus one)
+unfoldable pub configured : List ℕ → ℕ → Bool
+configured ps k = ltb 0 (getD ps k 0)
 
 -- the number of locals of a class
-unfoldable pub localsOf : Config → ℕ → ℕ
-localsOf c k = getD (c .places) k 0 - 1
+unfoldable pub localsOf : List ℕ → ℕ → ℕ
+localsOf ps k = getD ps k 0 - 1
 
 -- one local word per local, by class, then index: the word of class k, index i
-unfoldable pub slot : Config → ℕ → ℕ → ℕ
-slot c k i = sum (localsOf c) 0 k + i
+unfoldable pub slot : List ℕ → ℕ → ℕ → ℕ
+slot ps k i = sum (localsOf ps) 0 k + i
 
 -- the number of locals of all classes
-unfoldable pub localCount : Config → ℕ
-localCount c = sum (localsOf c) 0 8
+unfoldable pub localCount : List ℕ → ℕ
+localCount ps = sum (localsOf ps) 0 8
 
 -- tree word: free in bits 0 to 27, reserved bit 28, class bits 29 to 31
 unfoldable pub treeOf : ℕ → Tree
