@@ -17,7 +17,9 @@ struct Field {
 }
 
 fn fail(what: &str) -> TokenStream {
-    format!("::core::compile_error!({what:?});").parse().unwrap()
+    format!("::core::compile_error!({what:?});")
+        .parse()
+        .unwrap()
 }
 
 fn int_bits(ty: &str) -> Option<u32> {
@@ -71,7 +73,10 @@ fn fields(body: TokenStream) -> Result<Vec<Field>, String> {
                 && i.to_string() == "bits"
             {
                 let n = g.stream().to_string();
-                bits = Some(n.parse().map_err(|_| format!("bits({n}): a number is needed"))?);
+                bits = Some(
+                    n.parse()
+                        .map_err(|_| format!("bits({n}): a number is needed"))?,
+                );
             }
         }
         let vis = vis(&t, &mut at);
@@ -94,7 +99,12 @@ fn fields(body: TokenStream) -> Result<Vec<Field>, String> {
             at += 1;
         }
         at += 1; // the comma
-        out.push(Field { vis, name: name.to_string(), ty: ty.to_string(), bits });
+        out.push(Field {
+            vis,
+            name: name.to_string(),
+            ty: ty.to_string(),
+            bits,
+        });
     }
     Ok(out)
 }
@@ -107,7 +117,10 @@ pub fn bitfield(attr: TokenStream, item: TokenStream) -> TokenStream {
     };
     let t: Vec<_> = item.into_iter().collect();
     let mut at = 0;
-    let kept: String = attrs(&t, &mut at).iter().map(|g| format!("#{g}\n")).collect();
+    let kept: String = attrs(&t, &mut at)
+        .iter()
+        .map(|g| format!("#{g}\n"))
+        .collect();
     let vis = vis(&t, &mut at);
     let (Some(TokenTree::Ident(kw)), Some(TokenTree::Ident(name)), Some(TokenTree::Group(body))) =
         (t.get(at), t.get(at + 1), t.get(at + 2))
@@ -125,7 +138,13 @@ pub fn bitfield(attr: TokenStream, item: TokenStream) -> TokenStream {
     let mut methods = String::new();
     let mut debug = String::new();
     let mut offset = 0;
-    for Field { vis, name, ty, bits } in &fields {
+    for Field {
+        vis,
+        name,
+        ty,
+        bits,
+    } in &fields
+    {
         let Some(bits) = bits.or(int_bits(ty)) else {
             return fail(&format!("bitfield: field {name} needs bits"));
         };
@@ -161,7 +180,9 @@ pub fn bitfield(attr: TokenStream, item: TokenStream) -> TokenStream {
         offset += bits;
     }
     if offset != width {
-        return fail(&format!("bitfield: the fields take {offset} of {width} bits"));
+        return fail(&format!(
+            "bitfield: the fields take {offset} of {width} bits"
+        ));
     }
 
     format!(

@@ -1,0 +1,9 @@
+-- document 01 from the routes of get to the calls: read these in this order
+pub mod State
+pub mod Locals
+pub mod Walk
+pub mod Search
+pub mod Get
+pub mod Standing
+pub mod Calls
+pub mod Statistics
