@@ -100,13 +100,13 @@ impl<S: Sink> Scenario<'_, S> {
     fn header(&mut self) {
         let r = &mut self.r;
         self.n = match r.below(100) {
-            0..9 => 1,
-            9..20 => 2,
-            20..31 => 3,
-            31..60 => 4 + r.below(9) as usize,
-            60..78 => 9 + r.below(24) as usize,
-            78..88 => 33 + r.below(47) as usize,
-            88..94 => r.pick(&[16, 64, 79, 80, 81, 95, 96, 112]),
+            0..8 => 1,
+            8..18 => 2,
+            18..28 => 3,
+            28..55 => 4 + r.below(9) as usize,
+            55..72 => 9 + r.below(24) as usize,
+            72..80 => 33 + r.below(47) as usize,
+            80..87 => r.pick(&[16, 64, 65, 79, 80, 81, 95, 96, 112, 200]),
             _ => 80 + r.below(121) as usize,
         };
         if self.o.brief && self.n > 100 && r.chance(70) {
@@ -121,7 +121,7 @@ impl<S: Sink> Scenario<'_, S> {
             _ => 2048 * (n - 1) + 1 + r.below(2048),
         };
         let few = [0, 1, 2, 3, 4, n.saturating_sub(1), n, n + 1, 32, 7];
-        let count = |r: &mut Random| (if r.chance(60) { 1 + r.below(4) } else { r.pick(&few) }).min(32) as u8;
+        let count = |r: &mut Random| (if r.chance(60) { 1 + r.below(4) } else if r.chance(25) { 0 } else { r.pick(&few) }).min(32) as u8;
         let mut classes = [None; 8];
         let mut table = [[Pair::default(); 8]; 8];
         let mut default;
@@ -169,7 +169,7 @@ impl<S: Sink> Scenario<'_, S> {
     }
 
     fn begin(&mut self) {
-        if self.r.chance(4) {
+        while self.r.chance(35) {
             self.wrong_start();
         }
         if self.r.chance(6) && self.n < 40 {
@@ -361,9 +361,9 @@ impl<S: Sink> Scenario<'_, S> {
         let most = match (self.o.brief, self.n) {
             (true, 0..40) => 20 + self.r.below(100),
             (true, _) => 10 + self.r.below(40),
-            (false, 0..9) => 50 + self.r.below(1500),
-            (false, 9..40) => 50 + self.r.below(1000),
-            (false, _) => 50 + self.r.below(400),
+            (false, 0..9) => 30 + self.r.below(500),
+            (false, 9..40) => 30 + self.r.below(500),
+            (false, _) => 30 + self.r.below(300),
         };
         let phase = 10 + self.r.below(most);
         for i in 0..most {

@@ -7,3 +7,4 @@ pub mod Get
 pub mod Standing
 pub mod Calls
 pub mod Statistics
+pub mod Examples
