@@ -7,4 +7,5 @@ pub mod Get
 pub mod Standing
 pub mod Calls
 pub mod Statistics
+pub mod Promises
 pub mod Examples

@@ -1,0 +1,2 @@
+-- the definitions are in `rules`
+pub mod Sums

@@ -1,0 +1,299 @@
+// The policy lookup, a tree's and a local's word, what the rules do to a single word, and the header's places. By value: no buffer but the table.
+use rules::Header;
+use rules::Kind;
+use rules::Local;
+use rules::Taken;
+use rules::Took;
+use rules::Tree;
+ghost use mathlib.Core.Path.{_≡_};
+ghost use Prim.Native.Nat.{_^_, _<_, _≤_};
+ghost use Rattle.rules.specs.Words.{config, treeCount, configured, localsOf, slot, localCount, treeOf, treeWord, localOf, localWord};
+ghost use Rattle.rules.specs.Policy.{policyOf, policy, kindAt};
+ghost use Rattle.rules.specs.Entries.{ifFull, classAfter, putOf, stealOf, reserveOf, unreserveOf, syncOf};
+
+// The answer of a pair's word, asked with a number of free frames.
+pub fn policy_of(w: u32, free: usize) -> Kind
+    ensures { λ r. ⌜ r ≡ policyOf w free ⌝ }
+{
+    if w % 4 == 0 {
+        return Kind::Invalid;
+    }
+    if w % 4 == 1 {
+        return Kind::Steal;
+    }
+    if w % 4 == 2 {
+        return Kind::Demote;
+    }
+    if (w / 4 % 0x4000) as usize <= free {
+        return Kind::Match((w / 0x100_0000) as usize);
+    }
+    Kind::Match((w / 0x1_0000 % 0x100) as usize)
+}
+
+// The policy: a requested and a target class, asked with a number of free frames.
+pub fn ask(h: Header, table: &[u32; 64], requested: usize, target: usize, free: usize) -> Kind
+    requires { ⌜ (requested < 8) × (target < 8) ⌝ }
+    ensures { λ r. ⌜ r ≡ policy (config h (now (table .entry))) requested target free ⌝ }
+{
+    policy_of(table[requested * 8 + target], free)
+}
+
+// The kind of a pair of classes: Invalid 0, Steal 1, Demote 2 or Match 3.
+pub fn kind_at(h: Header, table: &[u32; 64], requested: usize, target: usize) -> u32
+    requires { ⌜ (requested < 8) × (target < 8) ⌝ }
+    ensures { λ r. ⌜ r ≡ kindAt (config h (now (table .entry))) requested target ⌝ }
+{
+    table[requested * 8 + target] % 4
+}
+
+// A tree's word taken apart.
+pub fn tree_of(w: u32) -> Tree
+    ensures { λ r. ⌜ r ≡ treeOf w ⌝ }
+{
+    Tree {
+        free: (w % 0x1000_0000) as usize,
+        reserved: w / 0x1000_0000 % 2 == 1,
+        class: (w / 0x2000_0000) as usize,
+    }
+}
+
+// A tree's word put together.
+pub fn tree_word(t: Tree) -> u32
+    ensures { λ r. ⌜ r ≡ treeWord t ⌝ }
+{
+    let free = (t.free % 0x1000_0000) as u32;
+    let class = (t.class % 8) as u32;
+    if t.reserved {
+        free + 0x1000_0000 + 0x2000_0000 * class
+    } else {
+        free + 0x2000_0000 * class
+    }
+}
+
+// A local's word taken apart.
+pub fn local_of(w: u64) -> Local
+    ensures { λ r. ⌜ r ≡ localOf w ⌝ }
+{
+    Local {
+        row: (w % 0x1000_0000_0000) as usize,
+        free: (w / 0x1000_0000_0000 % 0x8_0000) as usize,
+        present: w / 0x8000_0000_0000_0000 == 1,
+    }
+}
+
+// A local's word put together.
+pub fn local_word(l: Local) -> u64
+    ensures { λ r. ⌜ r ≡ localWord l ⌝ }
+{
+    let row = (l.row % 0x1000_0000_0000) as u64;
+    let free = (l.free % 0x8_0000) as u64;
+    if l.present {
+        row + 0x1000_0000_0000 * free + 0x8000_0000_0000_0000
+    } else {
+        row + 0x1000_0000_0000 * free
+    }
+}
+
+// The default class where the tree is now full, else the class it had.
+fn if_full(h: Header, class: usize, free: usize) -> usize
+    ensures { λ r. ⌜ r ≡ ifFull 11 (h .default) class free ⌝ }
+{
+    if free == 2048 { h.default } else { class }
+}
+
+// The class after a put: the policy's answer for the entry's class and the default decides at a full tree.
+fn class_after(h: Header, class: usize, free: usize, kind: Kind) -> usize
+    ensures { λ r. ⌜ r ≡ classAfter 11 (h .default) class free kind ⌝ }
+{
+    match kind {
+        Kind::Invalid => class,
+        Kind::Steal => if_full(h, class, free),
+        Kind::Demote => if_full(h, class, free),
+        Kind::Match(_) => if_full(h, class, free),
+    }
+}
+
+// Entry put: frames come back to an entry.
+pub fn put(h: Header, table: &[u32; 64], t: Tree, n: usize) -> Tree
+    requires { ⌜ (h .default < 8) × ((t .class < 8) × ((t .free < 2 ^ 32) × (n < 2 ^ 32))) ⌝ }
+    ensures { λ r. ⌜ r ≡ putOf (config h (now (table .entry))) t n ⌝ }
+{
+    let free = t.free + n;
+    let kind = ask(h, table, t.class, h.default, free);
+    Tree {
+        free: free,
+        reserved: t.reserved,
+        class: class_after(h, t.class, free, kind),
+    }
+}
+
+// Steal: the entry that is left, or a refusal.
+pub fn steal(h: Header, table: &[u32; 64], t: Tree, class: usize, n: usize) -> Took
+    requires { ⌜ (class < 8) × (t .class < 8) ⌝ }
+    ensures { λ r. ⌜ r ≡ stealOf (config h (now (table .entry))) t class n ⌝ }
+{
+    if t.reserved {
+        return Took::No;
+    }
+    if t.free < n {
+        return Took::No;
+    }
+    match ask(h, table, class, t.class, n) {
+        Kind::Invalid => Took::No,
+        Kind::Steal => Took::Yes(Tree {
+            free: t.free - n,
+            reserved: false,
+            class: t.class,
+        }),
+        Kind::Demote => Took::Yes(Tree {
+            free: t.free - n,
+            reserved: false,
+            class: class,
+        }),
+        Kind::Match(_) => Took::Yes(Tree {
+            free: t.free - n,
+            reserved: false,
+            class: class,
+        }),
+    }
+}
+
+// Reserve or steal: the entry that is left; with the whole of it, the frames that it had.
+pub fn reserve_or_steal(h: Header, table: &[u32; 64], t: Tree, class: usize, n: usize) -> Taken
+    requires { ⌜ (class < 8) × (t .class < 8) ⌝ }
+    ensures { λ r. ⌜ r ≡ reserveOf (config h (now (table .entry))) t class n ⌝ }
+{
+    if t.reserved {
+        return Taken::No;
+    }
+    if t.free < n {
+        return Taken::No;
+    }
+    match ask(h, table, class, t.class, n) {
+        Kind::Invalid => Taken::No,
+        Kind::Steal => Taken::Part(Tree {
+            free: t.free - n,
+            reserved: false,
+            class: t.class,
+        }),
+        Kind::Demote => Taken::Whole(
+            Tree {
+                free: 0,
+                reserved: true,
+                class: class,
+            },
+            t.free,
+        ),
+        Kind::Match(_) => Taken::Whole(
+            Tree {
+                free: 0,
+                reserved: true,
+                class: class,
+            },
+            t.free,
+        ),
+    }
+}
+
+// Unreserve: a holder of this class returns its frames to a reserved entry. No: the entry is unreserved, or the pair is not good.
+pub fn unreserve(h: Header, table: &[u32; 64], t: Tree, class: usize, n: usize) -> Took
+    requires { ⌜ (h .default < 8) × ((class < 8) × ((t .class < 8) × ((t .free < 2 ^ 32) × (n < 2 ^ 32)))) ⌝ }
+    ensures { λ r. ⌜ r ≡ unreserveOf (config h (now (table .entry))) t class n ⌝ }
+{
+    if t.reserved {
+        match ask(h, table, class, t.class, n) {
+            Kind::Invalid => Took::No,
+            Kind::Steal => Took::No,
+            Kind::Demote => Took::Yes(put(
+                h,
+                table,
+                Tree {
+                    free: t.free,
+                    reserved: false,
+                    class: class,
+                },
+                n,
+            )),
+            Kind::Match(_) => Took::Yes(put(
+                h,
+                table,
+                Tree {
+                    free: t.free,
+                    reserved: false,
+                    class: t.class,
+                },
+                n,
+            )),
+        }
+    } else {
+        Took::No
+    }
+}
+
+// Sync: takes all of a reserved entry whose free is above the shortfall.
+pub fn sync(t: Tree, shortfall: usize) -> Took
+    ensures { λ r. ⌜ r ≡ syncOf t shortfall ⌝ }
+{
+    if t.reserved {
+        if shortfall < t.free {
+            return Took::Yes(Tree {
+                free: 0,
+                reserved: true,
+                class: t.class,
+            });
+        }
+        return Took::No;
+    }
+    Took::No
+}
+
+// A byte as a number.
+fn wide(x: u8) -> usize
+    ensures { λ r. ⌜ (r ≡ x) × (r < 256) ⌝ }
+{
+    x as usize
+}
+
+// Whether a class is configured.
+pub fn is_configured(h: Header, class: usize) -> bool
+    requires { ⌜ class < 8 ⌝ }
+    ensures { λ r. ⌜ r ≡ configured (h .places) class ⌝ }
+{
+    0 < wide(h.places[class])
+}
+
+// The number of locals of a class.
+pub fn locals_of(h: Header, class: usize) -> usize
+    requires { ⌜ class < 8 ⌝ }
+    ensures { λ r. ⌜ (r ≡ localsOf (h .places) class) × (r < 256) ⌝ }
+{
+    let place = wide(h.places[class]);
+    if 0 < place { place - 1 } else { 0 }
+}
+
+// The place of a local in the lent words, by class, then index.
+pub fn slot(h: Header, class: usize, index: usize) -> usize
+    requires { ⌜ (class ≤ 8) × (index < 2 ^ 32) ⌝ }
+    ensures { λ r. ⌜ r ≡ slot (h .places) class index ⌝ }
+{
+    let mut first = 0;
+    for k in 0..class {
+        first = first + locals_of(h, k);
+    }
+    first + index
+}
+
+// The number of locals of all classes.
+pub fn local_count(h: Header) -> usize
+    ensures { λ r. ⌜ r ≡ localCount (h .places) ⌝ }
+{
+    slot(h, 8, 0)
+}
+
+// The number of trees of so many frames.
+pub fn tree_count(frames: usize) -> usize
+    requires { ⌜ frames < 2 ^ 32 ⌝ }
+    ensures { λ r. ⌜ r ≡ treeCount 11 frames ⌝ }
+{
+    (frames + 2047) / 2048
+}
