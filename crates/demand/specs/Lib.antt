@@ -1,0 +1,2 @@
+-- demand 3: what a reader must believe of it
+pub mod Demand
