@@ -7,5 +7,6 @@ pub mod Get
 pub mod Standing
 pub mod Calls
 pub mod Statistics
+pub mod Fits
 pub mod Promises
 pub mod Examples
