@@ -1,0 +1,2 @@
+-- laws of computed tests, and of the policy table
+pub mod All
