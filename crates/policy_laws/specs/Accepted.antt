@@ -8,8 +8,8 @@ use lib.Dec.{eqb, leb, ltb}
 use lib.ListN.{getD}
 use lib.Pow.{pow-pos}
 use borrow.Author.Tests.{leb-true, leb-false, le-leb, lt-leb, ltb-true, ltb-false, lt-ltb, le-ltb, eq-eqb, ne-eqb, eqb-true, eqb-false}
-use Rattle.rules.specs.Base.{pick, both, allBelow}
-use Rattle.rules.specs.Words.{Config, treeFrames, treeCount, trees, configured, localsOf}
+use Rattle.rules.specs.Base.{pick, both, allBelow, sum}
+use Rattle.rules.specs.Words.{Config, treeFrames, treeCount, trees, configured, localsOf, localCount}
 use Rattle.rules.specs.Policy.{pairOf, kindOf, cutOf, lowOf, highOf, kindAt, good, pairFormed, pairAccepted, tableFormed, implies, rulesAt, tableRules, framesAccepted, placesAccepted, defaultAccepted, accepted, Configured, Good, Accepts}
 use Rattle.policy_laws.specs.All.{by, true-false, both-left, both-right, both-true, implies-at, implies-make, all-at, all-make}
 use Rattle.policy_laws.specs.Kinds.{good-true, good-fact, kindAt-lt, configured-true, configured-fact, configured-false, unconfigured-fact}
@@ -21,6 +21,15 @@ pub record PairForm (z w : ℕ) : Type 0 where
   -- other kinds hold zeros there: in cut and ratings
   pub zeros : (kindOf w ≡ 3 → ⊥) → (cutOf w ≡ 0) × ((lowOf w ≡ 0) × (highOf w ≡ 0))
 
+-- a policy table that is accepted, in 01's words
+pub record AcceptedTable (c : Config) : Type 0 where
+  -- a Match has a cut and two ratings, other kinds hold zeros there
+  pub formed : (o e : ℕ) → o < 8 → e < 8 → PairForm (c .order) (pairOf c o e)
+  -- a pair with an unconfigured class is Invalid
+  pub invalid : (o e : ℕ) → o < 8 → e < 8 → (Configured c o × Configured c e → ⊥) → kindAt c o e ≡ 0
+  -- the three rules over configured classes
+  pub rules : Accepts c
+
 -- header and policy table as a start accepts them, in 01's words
 pub record AcceptedConfig (c : Config) : Type 0 where
   -- frames F: 1 to 2,097,152
@@ -30,15 +39,11 @@ pub record AcceptedConfig (c : Config) : Type 0 where
   pub locals : (k : ℕ) → Configured c k → localsOf (c .places) k ≤ 32
   -- the default is a configured class
   pub default : Configured c (c .default)
-  -- a Match has a cut and two ratings, other kinds hold zeros there
-  pub formed : (o e : ℕ) → o < 8 → e < 8 → PairForm (c .order) (pairOf c o e)
-  -- a pair with an unconfigured class is Invalid
-  pub invalid : (o e : ℕ) → o < 8 → e < 8 → (Configured c o × Configured c e → ⊥) → kindAt c o e ≡ 0
-  -- the three rules over configured classes
-  pub rules : Accepts c
+  -- the table
+  pub table : AcceptedTable c
 
 -- a word with zeros above the kind is the kind alone
-kind-alone : (w : ℕ) → w / 4 % 2 ^ 14 ≡ 0 → w / 2 ^ 16 % 2 ^ 8 ≡ 0 → w / 2 ^ 24 ≡ 0 → w < 4
+pub kind-alone : (w : ℕ) → w / 4 % 2 ^ 14 ≡ 0 → w / 2 ^ 16 % 2 ^ 8 ≡ 0 → w / 2 ^ 24 ≡ 0 → w < 4
 kind-alone w a b h =
     let l : w < 2 ^ 24 = omega arith in
     let m : w / 2 ^ 16 < 2 ^ 8 = omega arith in
@@ -72,7 +77,7 @@ module _ (c : Config) where
   unfolding pairAccepted
   pair-invalid o e lo le h n =
       let r : pick (configured (c .places) o) (pick (configured (c .places) e) true (eqb (kindAt c o e) 0)) (eqb (kindAt c o e) 0) ≡ true
-        = both-right (pairFormed (c .order) (pairOf c o e)) _ h in
+      = both-right (pairFormed (c .order) (pairOf c o e)) _ h in
       by (configured (c .places) o)
       (λ a. by (configured (c .places) e)
       (λ b. absurd (n (configured-fact c o lo a, configured-fact c e le b)))
@@ -100,7 +105,7 @@ module _ (c : Config) where
   rules-say o e k h =
       let own : implies (configured (c .places) o) (good c o o) ≡ true = both-left (implies (configured (c .places) o) (good c o o)) _ h in
       let on : good c o e ≡ true → both (implies (ltb 0 (kindAt c e (c .default))) (good c o (c .default))) (implies (eqb (kindAt c k o) 2) (good c k e)) ≡ true
-        = implies-at (good c o e) _ (both-right (implies (configured (c .places) o) (good c o o)) _ h) in
+      = implies-at (good c o e) _ (both-right (implies (configured (c .places) o) (good c o o)) _ h) in
       record {
         own = λ l. good-fact c o o (implies-at _ _ own (configured-true c o l));
         back = λ g n. good-fact c o (c .default) (implies-at (ltb 0 (kindAt c e (c .default))) _ (both-left _ (implies (eqb (kindAt c k o) 2) (good c k e)) (on (good-true c o e g))) (lt-ltb _ _ n));
@@ -152,35 +157,23 @@ module _ (c : Config) where
       (λ a. le-leb (getD (c .places) k 0) 33 (omega (arith, h k (configured-fact c k l a))))
       (λ a. le-leb (getD (c .places) k 0) 33 (let z : getD (c .places) k 0 ≤ 0 = ltb-false _ _ a in omega arith)))
 
-  -- a pair that is not Invalid, in a table of that form, has two configured classes
-  not-invalid : ((o e : ℕ) → o < 8 → e < 8 → (Configured c o × Configured c e → ⊥) → kindAt c o e ≡ 0)
-      → (o e : ℕ) → o < 8 → e < 8 → 0 < kindAt c o e → Configured c o × Configured c e
-  not-invalid f o e lo le n = by (configured (c .places) o)
+  -- in an accepted table a pair that is not Invalid has two configured classes
+  pub pair-configured : AcceptedTable c → (o e : ℕ) → o < 8 → e < 8 → 0 < kindAt c o e → Configured c o × Configured c e
+  pair-configured t o e lo le n = by (configured (c .places) o)
       (λ a. by (configured (c .places) e)
       (λ b. (configured-fact c o lo a, configured-fact c e le b))
       (λ b. absurd (none (λ g. unconfigured-fact c e b (g .1)))))
       (λ a. absurd (none (λ g. unconfigured-fact c o a (g .0))))
     where
       none : (Configured c o × Configured c e → ⊥) → ⊥
-      none g = let z : kindAt c o e ≡ 0 = f o e lo le g in omega arith
+      none g = let z : kindAt c o e ≡ 0 = t .invalid o e lo le g in omega arith
 
-  -- the test passes: so 01 accepts
-  pub accepted-says : accepted c ≡ true → AcceptedConfig c
-  unfolding accepted framesAccepted defaultAccepted
-  accepted-says h =
-      let h1 : both (placesAccepted c) (both (defaultAccepted c) (both (tableFormed c) (tableRules c))) ≡ true = both-right (framesAccepted c) _ h in
-      let h2 : both (defaultAccepted c) (both (tableFormed c) (tableRules c)) ≡ true = both-right (placesAccepted c) _ h1 in
-      let h3 : both (tableFormed c) (tableRules c) ≡ true = both-right (defaultAccepted c) _ h2 in
-      let hf : framesAccepted c ≡ true = both-left (framesAccepted c) _ h in
-      let hp : placesAccepted c ≡ true = both-left (placesAccepted c) _ h1 in
-      let hd : defaultAccepted c ≡ true = both-left (defaultAccepted c) _ h2 in
-      let ht : tableFormed c ≡ true = both-left (tableFormed c) _ h3 in
-      let hr : tableRules c ≡ true = both-right (tableFormed c) _ h3 in
+  -- the test of the table, and 01's rules of it
+  pub table-says : both (tableFormed c) (tableRules c) ≡ true → AcceptedTable c
+  table-says h =
+      let ht : tableFormed c ≡ true = both-left (tableFormed c) _ h in
+      let hr : tableRules c ≡ true = both-right (tableFormed c) _ h in
       record {
-        some = ltb-true 0 (c .frames) (both-left (ltb 0 (c .frames)) (leb (c .frames) (1024 * treeFrames (c .order))) hf);
-        most = leb-true (c .frames) _ (both-right (ltb 0 (c .frames)) (leb (c .frames) (1024 * treeFrames (c .order))) hf);
-        locals = places-say hp;
-        default = configured-fact c (c .default) (ltb-true _ _ (both-left (ltb (c .default) 8) (configured (c .places) (c .default)) hd)) (both-right (ltb (c .default) 8) (configured (c .places) (c .default)) hd);
         formed = λ o e lo le. pair-says o e (pair-at ht o e lo le);
         invalid = λ o e lo le. pair-invalid o e lo le (pair-at ht o e lo le);
         rules = record {
@@ -190,24 +183,112 @@ module _ (c : Config) where
         };
       }
 
+  pub says-table : AcceptedTable c → both (tableFormed c) (tableRules c) ≡ true
+  unfolding tableFormed tableRules
+  says-table t =
+      both-true (allBelow 64 (λ k. pairAccepted c (k / 8) (k % 8))) _
+      (all-make 64 (λ k. pairAccepted c (k / 8) (k % 8)) (λ k l.
+      (let p : k / 8 < 8 = omega arith in let q : k % 8 < 8 = omega arith in
+      says-pair (k / 8) (k % 8) p q (t .formed _ _ p q) (t .invalid _ _ p q))))
+      (all-make 512 (λ x. rulesAt c (x / 64) (x / 8 % 8) (x % 8)) (λ x l.
+      (let lo : x / 64 < 8 = omega arith in let le : x / 8 % 8 < 8 = omega arith in let lk : x % 8 < 8 = omega arith in
+      say-rules (x / 64) (x / 8 % 8) (x % 8) lo (at (x / 64) (x / 8 % 8) (x % 8) lo le lk))))
+    where
+      at : (o e k : ℕ) → o < 8 → e < 8 → k < 8 → RulesAt o e k
+      at o e k lo le lk = record {
+        own = t .rules .own o;
+        back = λ g n. (let y = pair-configured t o e lo le (omega arith) in t .rules .back o e (y .0) (y .1) g n);
+        down = λ g n. (let y = pair-configured t o e lo le (omega arith) in
+            let x = pair-configured t k o lk lo (omega arith) in
+            t .rules .down o e k (y .0) (y .1) (x .0) g n);
+      }
+
+  -- the test passes: so 01 accepts
+  pub accepted-says : accepted c ≡ true → AcceptedConfig c
+  unfolding accepted framesAccepted defaultAccepted
+  accepted-says h =
+      let h1 : both (placesAccepted c) (both (defaultAccepted c) (both (tableFormed c) (tableRules c))) ≡ true = both-right (framesAccepted c) _ h in
+      let h2 : both (defaultAccepted c) (both (tableFormed c) (tableRules c)) ≡ true = both-right (placesAccepted c) _ h1 in
+      let hf : both (ltb 0 (c .frames)) (leb (c .frames) (1024 * treeFrames (c .order))) ≡ true = both-left (framesAccepted c) _ h in
+      let hd : both (ltb (c .default) 8) (configured (c .places) (c .default)) ≡ true = both-left (defaultAccepted c) _ h2 in
+      record {
+        some = ltb-true 0 (c .frames) (both-left (ltb 0 (c .frames)) _ hf);
+        most = leb-true (c .frames) _ (both-right (ltb 0 (c .frames)) _ hf);
+        locals = places-say (both-left (placesAccepted c) _ h1);
+        default = configured-fact c (c .default) (ltb-true _ _ (both-left (ltb (c .default) 8) _ hd)) (both-right (ltb (c .default) 8) _ hd);
+        table = table-says (both-right (defaultAccepted c) _ h2);
+      }
+
   -- 01 accepts: so the test passes
   pub says-accepted : AcceptedConfig c → accepted c ≡ true
-  unfolding accepted framesAccepted defaultAccepted tableFormed tableRules
+  unfolding accepted framesAccepted defaultAccepted
   says-accepted a =
       rw (lt-ltb 0 (c .frames) (a .some), le-leb (c .frames) (1024 * treeFrames (c .order)) (a .most), say-places (a .locals), lt-ltb (c .default) 8 (a .default .0), configured-true c (c .default) (a .default))
-      (both-true (allBelow 64 (λ k. pairAccepted c (k / 8) (k % 8))) _
-      (all-make 64 (λ k. pairAccepted c (k / 8) (k % 8)) (λ k l.
-        (let p : k / 8 < 8 = omega arith in let q : k % 8 < 8 = omega arith in
-        says-pair (k / 8) (k % 8) p q (a .formed _ _ p q) (a .invalid _ _ p q))))
-      (all-make 512 (λ x. rulesAt c (x / 64) (x / 8 % 8) (x % 8)) (λ x l.
-        (let lo : x / 64 < 8 = omega arith in let le : x / 8 % 8 < 8 = omega arith in let lk : x % 8 < 8 = omega arith in
-        say-rules (x / 64) (x / 8 % 8) (x % 8) lo (at a (x / 64) (x / 8 % 8) (x % 8) lo le lk)))))
-    where
-      at : AcceptedConfig c → (o e k : ℕ) → o < 8 → e < 8 → k < 8 → RulesAt o e k
-      at a o e k lo le lk = record {
-        own = a .rules .own o;
-        back = λ g n. (let y = not-invalid (a .invalid) o e lo le (omega arith) in a .rules .back o e (y .0) (y .1) g n);
-        down = λ g n. (let y = not-invalid (a .invalid) o e lo le (omega arith) in
-          let x = not-invalid (a .invalid) k o lk lo (omega arith) in
-          a .rules .down o e k (y .0) (y .1) (x .0) g n);
-      }
+      (says-table (a .table))
+
+-- what follows from acceptance
+module _ (c : Config) (a : AcceptedConfig c) where
+  -- n is 1 to 1,024
+  pub trees-some : 1 ≤ trees c
+  unfolding treeCount
+  trees-some = le-div-iff-mul-le {k = treeFrames (c .order)} {x = 1} {y = c .frames + (treeFrames (c .order) - 1)} (pow-pos (c .order)) .1 (omega (arith, a .some, pow-pos (c .order)))
+
+  pub trees-most : trees c ≤ 1024
+  unfolding treeCount
+  trees-most =
+      let l : (c .frames + (treeFrames (c .order) - 1)) / treeFrames (c .order) < 1025
+      = div-lt-iff-lt-mul {k = treeFrames (c .order)} {x = c .frames + (treeFrames (c .order) - 1)} {y = 1025} (pow-pos (c .order)) .1 (omega (arith, a .most, pow-pos (c .order))) in
+      omega arith
+
+  -- a class has at most 32 locals, configured or not
+  pub locals-most : (k : ℕ) → k < 8 → localsOf (c .places) k ≤ 32
+  unfolding localsOf configured
+  locals-most k l = by (configured (c .places) k)
+      (λ h. a .locals k (configured-fact c k l h))
+      (λ h. (let z : getD (c .places) k 0 ≤ 0 = ltb-false _ _ h in omega arith))
+
+  -- there are at most 256 locals
+  pub localCount-most : localCount (c .places) ≤ 256
+  unfolding localCount sum
+  localCount-most = omega (
+    arith,
+    locals-most 0 (omega arith),
+    locals-most 1 (omega arith),
+    locals-most 2 (omega arith),
+    locals-most 3 (omega arith),
+    locals-most 4 (omega arith),
+    locals-most 5 (omega arith),
+    locals-most 6 (omega arith),
+    locals-most 7 (omega arith),
+  )
+
+  -- a good pair has two configured classes
+  pub good-configured : (o e : ℕ) → o < 8 → e < 8 → Good c o e → Configured c o × Configured c e
+  good-configured o e lo le g = pair-configured c (a .table) o e lo le (omega arith)
+
+  -- (c, c) is good for a configured class, so for the default
+  pub own-good : (k : ℕ) → Configured c k → Good c k k
+  own-good = a .table .rules .own
+
+  pub default-good : Good c (c .default) (c .default)
+  default-good = own-good (c .default) (a .default)
+
+  -- if (o, e) is good and (e, default) is not Invalid then (o, default) is good
+  pub back-good : (o e : ℕ) → o < 8 → e < 8 → Good c o e → 0 < kindAt c e (c .default) → Good c o (c .default)
+  back-good o e lo le g n = let y = good-configured o e lo le g in a .table .rules .back o e (y .0) (y .1) g n
+
+  -- if (o, e) is good and (k, o) is Demote then (k, e) is good
+  pub down-good : (o e k : ℕ) → o < 8 → e < 8 → k < 8 → Good c o e → kindAt c k o ≡ 2 → Good c k e
+  down-good o e k lo le lk g n =
+      let y = good-configured o e lo le g in
+      let x = pair-configured c (a .table) k o lk lo (omega arith) in
+      a .table .rules .down o e k (y .0) (y .1) (x .0) g n
+
+  -- a pair with the default that is not Invalid is good: it is never Steal
+  pub to-default-good : (k : ℕ) → k < 8 → 0 < kindAt c k (c .default) → Good c k (c .default)
+  to-default-good k l n =
+      let y = pair-configured c (a .table) k (c .default) l (a .default .0) n in
+      a .table .rules .back k k (y .0) (y .0) (own-good k (y .0)) n
+
+  pub never-steal : (k : ℕ) → k < 8 → kindAt c k (c .default) ≡ 1 → ⊥
+  never-steal k l h = let g : 2 ≤ kindAt c k (c .default) = to-default-good k l (omega arith) in omega arith
