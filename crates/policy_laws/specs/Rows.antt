@@ -1,6 +1,7 @@
 -- The test of the table row by row, which the code makes: a pair's three rules only where the pair is good. It is the same test. Assumes nothing.
 use mathlib.Core.Path.{_≡_, refl, sym, ap, _∙_}
 use mathlib.Core.Bool.{Bool, true, false}
+use mathlib.Core.List.{List}
 use Prim.Native.Nat.{ℕ, _+_, _*_, _/_, _%_, _^_, _<_, _≤_}
 use native.Mathlib.Omega.{arith}
 use lib.Dec.{eqb, leb, ltb}
@@ -32,6 +33,28 @@ rowEmpty c o = allBelow 8 (λ e. eqb (pairOf c o e) 0)
 -- the eight pairs of a requested class
 unfoldable pub rowAccepted : Config → ℕ → Bool
 rowAccepted c o = pick (configured (c .places) o) (both (good c o o) (allBelow 8 (cellAccepted c o))) (rowEmpty c o)
+
+-- a class is unconfigured or has 0 to 32 locals
+abbrev pub placeFits : List ℕ → ℕ → Bool
+placeFits ps k = leb (getD ps k 0) 33
+
+-- a test at the eight classes
+all-eight : (f : ℕ → Bool) → f 0 ≡ true → f 1 ≡ true → f 2 ≡ true → f 3 ≡ true → f 4 ≡ true → f 5 ≡ true → f 6 ≡ true → f 7 ≡ true → allBelow 8 f ≡ true
+unfolding allBelow
+all-eight f h0 h1 h2 h3 h4 h5 h6 h7 = simp (h0, h1, h2, h3, h4, h5, h6, h7)
+
+-- eight words are zero exactly if their sum is
+pub row-sum : (c : Config) (o : ℕ) → eqb (pairOf c o 0 + pairOf c o 1 + pairOf c o 2 + pairOf c o 3 + pairOf c o 4 + pairOf c o 5 + pairOf c o 6 + pairOf c o 7) 0 ≡ rowEmpty c o
+unfolding rowEmpty
+row-sum c o = same-test _ (allBelow 8 (λ e. eqb (pairOf c o e) 0)) (λ h. each (eqb-true _ 0 h)) (λ h. eq-eqb _ 0 (whole h))
+  where
+    whole : allBelow 8 (λ e. eqb (pairOf c o e) 0) ≡ true → pairOf c o 0 + pairOf c o 1 + pairOf c o 2 + pairOf c o 3 + pairOf c o 4 + pairOf c o 5 + pairOf c o 6 + pairOf c o 7 ≡ 0
+    whole h =
+        let f : (e : ℕ) → e < 8 → pairOf c o e ≡ 0 = λ e l. eqb-true _ _ (all-at 8 (λ e. eqb (pairOf c o e) 0) h e l) in
+        omega (arith, f 0 (omega arith), f 1 (omega arith), f 2 (omega arith), f 3 (omega arith), f 4 (omega arith), f 5 (omega arith), f 6 (omega arith), f 7 (omega arith))
+
+    each : pairOf c o 0 + pairOf c o 1 + pairOf c o 2 + pairOf c o 3 + pairOf c o 4 + pairOf c o 5 + pairOf c o 6 + pairOf c o 7 ≡ 0 → allBelow 8 (λ e. eqb (pairOf c o e) 0) ≡ true
+    each h = all-eight (λ e. eqb (pairOf c o e) 0) (eq-eqb (pairOf c o 0) 0 (omega arith)) (eq-eqb (pairOf c o 1) 0 (omega arith)) (eq-eqb (pairOf c o 2) 0 (omega arith)) (eq-eqb (pairOf c o 3) 0 (omega arith)) (eq-eqb (pairOf c o 4) 0 (omega arith)) (eq-eqb (pairOf c o 5) 0 (omega arith)) (eq-eqb (pairOf c o 6) 0 (omega arith)) (eq-eqb (pairOf c o 7) 0 (omega arith))
 
 module _ (c : Config) where
   -- a word of zeros has the form of Invalid
