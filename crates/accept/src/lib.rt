@@ -2,11 +2,10 @@
 use rules::Header;
 ghost use mathlib.Core.Path.{_≡_};
 ghost use Prim.Native.Nat.{ℕ, _+_, _*_, _<_, _≤_};
-ghost use lib.Dec.{eqb};
 ghost use Rattle.rules.specs.Base.{allBelow};
 ghost use Rattle.rules.specs.Words.{config, configured};
-ghost use Rattle.rules.specs.Policy.{pairOf, kindAt, good, pairFormed, implies, accepted};
-ghost use Rattle.policy_laws.specs.Rows.{placeFits, demotesKept, cellAccepted, rowEmpty, rowAccepted};
+ghost use Rattle.rules.specs.Policy.{pairOf, kindAt, pairFormed, accepted};
+ghost use Rattle.policy_laws.specs.Rows.{placeFits, demoteKept, demotesKept, cellAccepted, rowEmpty, rowAccepted};
 
 // A byte as a number.
 fn wide(x: u8) -> usize
@@ -73,7 +72,7 @@ fn formed(w: u32) -> bool
 // If (k, o) is Demote then (k, e) is good.
 fn demote_kept(h: Header, table: &[u32; 64], o: usize, e: usize, k: usize) -> bool
     requires { ⌜ (o < 8) × ((e < 8) × (k < 8)) ⌝ }
-    ensures { λ r. ⌜ r ≡ implies (eqb (kindAt (config h (now (table .entry))) k o) 2) (good (config h (now (table .entry))) k e) ⌝ }
+    ensures { λ r. ⌜ r ≡ demoteKept (config h (now (table .entry))) o e k ⌝ }
 {
     if kind_at(h, table, k, o) == 2 {
         return 2 <= kind_at(h, table, k, e);

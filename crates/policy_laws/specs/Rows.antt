@@ -14,9 +14,13 @@ use Rattle.policy_laws.specs.All.{by, same-test, both-left, both-right, 
 use Rattle.policy_laws.specs.Kinds.{good-true, good-fact, configured-true, configured-fact, unconfigured-fact}
 use Rattle.policy_laws.specs.Accepted.{PairForm, AcceptedTable, kind-alone, formed-says, says-formed, pair-configured, table-says, says-table}
 
--- if (k, o) is Demote then (k, e) is good, at every class k
+-- if (k, o) is Demote then (k, e) is good
+abbrev pub demoteKept : Config → ℕ → ℕ → ℕ → Bool
+demoteKept c o e k = implies (eqb (kindAt c k o) 2) (good c k e)
+
+-- the same at every class k
 unfoldable pub demotesKept : Config → ℕ → ℕ → Bool
-demotesKept c o e = allBelow 8 (λ k. implies (eqb (kindAt c k o) 2) (good c k e))
+demotesKept c o e = allBelow 8 (demoteKept c o e)
 
 -- the pair of a configured class o and a class e: its form, and the rules if it is good
 unfoldable pub cellAccepted : Config → ℕ → ℕ → Bool
@@ -104,7 +108,7 @@ module _ (c : Config) where
 
     demotes-at : (e k : ℕ) → k < 8 → demotesKept c o e ≡ true → kindAt c k o ≡ 2 → Good c k e
     unfolding demotesKept
-    demotes-at e k lk t n = good-fact c k e (implies-at (eqb (kindAt c k o) 2) _ (all-at 8 (λ k. implies (eqb (kindAt c k o) 2) (good c k e)) t k lk) (eq-eqb _ _ n))
+    demotes-at e k lk t n = good-fact c k e (implies-at (eqb (kindAt c k o) 2) _ (all-at 8 (demoteKept c o e) t k lk) (eq-eqb _ _ n))
 
   pub rows-say : allBelow 8 (rowAccepted c) ≡ true → AcceptedTable c
   rows-say h = record {
@@ -125,7 +129,7 @@ module _ (c : Config) where
   module _ (t : AcceptedTable c) where
     say-demotes : (o e : ℕ) → Configured c o → Configured c e → Good c o e → demotesKept c o e ≡ true
     unfolding demotesKept
-    say-demotes o e l m g = all-make 8 (λ k. implies (eqb (kindAt c k o) 2) (good c k e)) (λ k lk. implies-make (eqb (kindAt c k o) 2) _ (λ q.
+    say-demotes o e l m g = all-make 8 (demoteKept c o e) (λ k lk. implies-make (eqb (kindAt c k o) 2) _ (λ q.
         (let n : kindAt c k o ≡ 2 = eqb-true _ _ q in
         good-true c k e (t .rules .down o e k l m (pair-configured c t k o lk (l .0) (omega arith) .0) g n))))
 
