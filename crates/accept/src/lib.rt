@@ -14,13 +14,6 @@ fn wide(x: u8) -> usize
     x as usize
 }
 
-// A word as a number.
-fn long(x: u32) -> usize
-    ensures { λ r. ⌜ r ≡ x ⌝ }
-{
-    x as usize
-}
-
 // The class has a place.
 fn is_configured(h: Header, k: usize) -> bool
     requires { ⌜ k < 8 ⌝ }
@@ -138,16 +131,14 @@ fn row_empty(h: Header, table: &[u32; 64], o: usize) -> bool
     requires { ⌜ o < 8 ⌝ }
     ensures { λ r. ⌜ r ≡ rowEmpty (config h (now (table .entry))) o ⌝ }
 {
-    let a = long(pair_at(h, table, o, 0))
-        + long(pair_at(h, table, o, 1))
-        + long(pair_at(h, table, o, 2))
-        + long(pair_at(h, table, o, 3));
-    a
-        + long(pair_at(h, table, o, 4))
-        + long(pair_at(h, table, o, 5))
-        + long(pair_at(h, table, o, 6))
-        + long(pair_at(h, table, o, 7))
-        == 0
+    let mut e: usize = 0;
+    while e < 8 {
+        if pair_at(h, table, o, e) != 0 {
+            return false;
+        }
+        e += 1;
+    }
+    true
 }
 
 // The eight pairs of a requested class o.

@@ -30,9 +30,13 @@ cellAccepted c o e =
     (implies (good c o e) (both (implies (ltb 0 (kindAt c e (c .default))) (good c o (c .default))) (demotesKept c o e)))
     (eqb (kindAt c o e) 0))
 
--- the eight pairs of an unconfigured class: Invalid, with zeros
+-- the pair is Invalid, with zeros
+abbrev pub pairEmpty : Config → ℕ → ℕ → Bool
+pairEmpty c o e = eqb (pairOf c o e) 0
+
+-- the eight pairs of an unconfigured class
 unfoldable pub rowEmpty : Config → ℕ → Bool
-rowEmpty c o = allBelow 8 (λ e. eqb (pairOf c o e) 0)
+rowEmpty c o = allBelow 8 (pairEmpty c o)
 
 -- the eight pairs of a requested class
 unfoldable pub rowAccepted : Config → ℕ → Bool
@@ -41,24 +45,6 @@ rowAccepted c o = pick (configured (c .places) o) (both (good c o o) (allBelow 8
 -- a class is unconfigured or has 0 to 32 locals
 abbrev pub placeFits : List ℕ → ℕ → Bool
 placeFits ps k = leb (getD ps k 0) 33
-
--- a test at the eight classes
-all-eight : (f : ℕ → Bool) → f 0 ≡ true → f 1 ≡ true → f 2 ≡ true → f 3 ≡ true → f 4 ≡ true → f 5 ≡ true → f 6 ≡ true → f 7 ≡ true → allBelow 8 f ≡ true
-unfolding allBelow
-all-eight f h0 h1 h2 h3 h4 h5 h6 h7 = simp (h0, h1, h2, h3, h4, h5, h6, h7)
-
--- eight words are zero exactly if their sum is
-pub row-sum : (c : Config) (o : ℕ) → eqb (pairOf c o 0 + pairOf c o 1 + pairOf c o 2 + pairOf c o 3 + pairOf c o 4 + pairOf c o 5 + pairOf c o 6 + pairOf c o 7) 0 ≡ rowEmpty c o
-unfolding rowEmpty
-row-sum c o = same-test _ (allBelow 8 (λ e. eqb (pairOf c o e) 0)) (λ h. each (eqb-true _ 0 h)) (λ h. eq-eqb _ 0 (whole h))
-  where
-    whole : allBelow 8 (λ e. eqb (pairOf c o e) 0) ≡ true → pairOf c o 0 + pairOf c o 1 + pairOf c o 2 + pairOf c o 3 + pairOf c o 4 + pairOf c o 5 + pairOf c o 6 + pairOf c o 7 ≡ 0
-    whole h =
-        let f : (e : ℕ) → e < 8 → pairOf c o e ≡ 0 = λ e l. eqb-true _ _ (all-at 8 (λ e. eqb (pairOf c o e) 0) h e l) in
-        omega (arith, f 0 (omega arith), f 1 (omega arith), f 2 (omega arith), f 3 (omega arith), f 4 (omega arith), f 5 (omega arith), f 6 (omega arith), f 7 (omega arith))
-
-    each : pairOf c o 0 + pairOf c o 1 + pairOf c o 2 + pairOf c o 3 + pairOf c o 4 + pairOf c o 5 + pairOf c o 6 + pairOf c o 7 ≡ 0 → allBelow 8 (λ e. eqb (pairOf c o e) 0) ≡ true
-    each h = all-eight (λ e. eqb (pairOf c o e) 0) (eq-eqb (pairOf c o 0) 0 (omega arith)) (eq-eqb (pairOf c o 1) 0 (omega arith)) (eq-eqb (pairOf c o 2) 0 (omega arith)) (eq-eqb (pairOf c o 3) 0 (omega arith)) (eq-eqb (pairOf c o 4) 0 (omega arith)) (eq-eqb (pairOf c o 5) 0 (omega arith)) (eq-eqb (pairOf c o 6) 0 (omega arith)) (eq-eqb (pairOf c o 7) 0 (omega arith))
 
 module _ (c : Config) where
   -- a word of zeros has the form of Invalid
@@ -87,8 +73,8 @@ module _ (c : Config) where
 
     row-off : configured (c .places) o ≡ false → (e : ℕ) → e < 8 → pairOf c o e ≡ 0
     unfolding rowAccepted rowEmpty
-    row-off a e le = let t : allBelow 8 (λ e. eqb (pairOf c o e) 0) ≡ true = rw a at (all-at 8 (rowAccepted c) h o lo) in
-        eqb-true _ _ (all-at 8 (λ e. eqb (pairOf c o e) 0) t e le)
+    row-off a e le = let t : allBelow 8 (pairEmpty c o) ≡ true = rw a at (all-at 8 (rowAccepted c) h o lo) in
+        eqb-true _ _ (all-at 8 (pairEmpty c o) t e le)
 
     cell-at : configured (c .places) o ≡ true → (e : ℕ) → e < 8 → cellAccepted c o e ≡ true
     cell-at a e le = all-at 8 (cellAccepted c o) (both-right (good c o o) _ (row-on a)) e le
@@ -148,7 +134,7 @@ module _ (c : Config) where
     say-row o lo = by (configured (c .places) o)
         (λ a. (let l : Configured c o = configured-fact c o lo a in
         rw a (both-true (good c o o) _ (good-true c o o (t .rules .own o l)) (all-make 8 (cellAccepted c o) (λ e le. say-cell o e l le)))))
-        (λ a. rw a (all-make 8 (λ e. eqb (pairOf c o e) 0) (λ e le. eq-eqb _ _ (kind-zero o e (t .formed o e lo le) (t .invalid o e lo le (λ y. unconfigured-fact c o a (y .0)))))))
+        (λ a. rw a (all-make 8 (pairEmpty c o) (λ e le. eq-eqb _ _ (kind-zero o e (t .formed o e lo le) (t .invalid o e lo le (λ y. unconfigured-fact c o a (y .0)))))))
 
     pub say-rows : allBelow 8 (rowAccepted c) ≡ true
     say-rows = all-make 8 (rowAccepted c) say-row
