@@ -1,0 +1,32 @@
+-- `accept::demote_kept` meets its contract. Assumes nothing.
+use Rattle.rules.specs.Policy.{good}
+use borrow.Author.Tests.{eq-eqb, ne-eqb}
+use borrow.Author.Needs.{needs}
+use Rattle.accept.proofs.demote_kept.Statement.{statement}
+use Rattle.accept.proofs.demote_kept.Tie as tie
+
+kind-at-requires : tie.Need-kind-at-requires
+kind-at-requires c κs = search needs
+
+kind-at-requires-2 : tie.Need-kind-at-requires-2
+kind-at-requires-2 c κs = search needs
+
+returns : tie.Need-returns
+unfolding good
+returns c =
+    rw (
+      ← c .before .before .kind-at .ensures,
+      eq-eqb _ _ (c .before .if1 .taken),
+      ← c .kind-at2 .ensures,
+    )
+
+returns-2 : tie.Need-returns-2
+unfolding good
+returns-2 c =
+    rw (
+      ← c .before .kind-at .ensures,
+      ne-eqb _ _ (c .if1 .left),
+    )
+
+pub demote-kept-spec : {M : Type 1} → statement M
+demote-kept-spec = tie.close (tie.spec kind-at-requires kind-at-requires-2 returns returns-2)
