@@ -13,11 +13,6 @@ use Rattle.rules.specs.Lower.{held}
 use Rattle.rules.specs.declared.Local.{Local}
 use Rattle.ways.specs.Standing.{treeOn}
 
--- a tree order for which the laws hold: rows of 64 frames at least, and a tree's frames fit the 19 bits of a local's free
-pub record Size (z : ℕ) : Type 0 where
-  pub least : 6 ≤ z
-  pub most : z ≤ 18
-
 -- n at tree t, nothing at the others
 unfoldable pub here : ℕ → ℕ → ℕ → ℕ
 here t n i = pick (eqb i t) n 0
