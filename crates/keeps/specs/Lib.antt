@@ -3,3 +3,6 @@ pub mod Fine
 pub mod Steals
 pub mod Own
 pub mod Reserves
+pub mod Payers
+pub mod Searches
+pub mod Routes
