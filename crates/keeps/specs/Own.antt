@@ -4,14 +4,14 @@ use mathlib.Core.Bool.{Bool, true, false}
 use mathlib.Core.List.{List}
 use Prim.Native.Nat.{ℕ, zero, suc, _+_, _-_, _*_, _/_, _%_, _^_, _<_, _≤_}
 use native.Mathlib.Omega.{arith}
-use lib.Dec.{ltb}
+use lib.Dec.{leb, ltb}
 use lib.ListN.{length, getD, set}
 use lib.Pow.{pow-pos}
 use borrow.Author.Tests.{eq-eqb}
 use Rattle.rules.specs.Base.{ifte, Out, out}
 use Rattle.rules.specs.Words.{Config, treeFrames, treeRows, trees, slot, treeWord, localWord, entry, entryAt, localAt}
 use Rattle.rules.specs.Entries.{entrySync}
-use Rattle.rules.specs.Locals.{reservation, localPut}
+use Rattle.rules.specs.Locals.{reservation, inTree, localTake, localPut}
 use Rattle.rules.specs.Lower.{mark}
 use Rattle.rules.specs.declared.Local.{Local}
 use Rattle.rules.specs.declared.Synced.{Synced}
@@ -20,7 +20,7 @@ use Rattle.rules.specs.declared.Name.{Name}
 use Rattle.rules.specs.declared.Given.{Given}
 use Rattle.rules.specs.declared.Given.the-variants as Given
 use Rattle.rules.specs.declared.Request.{Request}
-use Rattle.ways.specs.State.{State, Way, size, done, missed, missedAt, onPut, onSync, withTrees, withLocals, withTry, putEntry, setRow}
+use Rattle.ways.specs.State.{State, Way, size, done, missed, missedAt, onHeld, onPut, onSync, withTrees, withLocals, withTry, putEntry, setRow}
 use Rattle.ways.specs.Standing.{treeOn}
 use Rattle.ways.specs.Locals.{takeBy, topBy, topUp, getLocal, ownLocal}
 use Rattle.word_laws.specs.Sizes.{Size, frames-le, row-of, tree-of, row-small}
@@ -69,6 +69,28 @@ never-falls falls again c q j row free s h =
     ap (λ (w : Way). ifte (ltb (size q) free) (λ _. missedAt (row / treeRows (c .order)) s) (λ _. w))
     (sync-same (entrySync (s .trees) (row / treeRows (c .order)) (size q - free)) s _ _ _
     (λ x ts. put-same (c .order) j (row / treeRows (c .order)) x (withTrees s ts) again _ _ (h .present) (ap (λ (y : ℕ). y / treeRows (c .order)) (h .row))))
+
+-- from a local, with equal ways on where it holds too few
+take-same : (up on : ℕ → ℕ → State → Way) (c : Config) (q : Request) (name : Name) (j : ℕ) (s : State)
+    → ((row free : ℕ) → Holds (s .locals) j row free → up row free s ≡ on row free s) → takeBy up c q name j s ≡ takeBy on c q name j s
+unfolding takeBy onHeld localTake withLocals
+take-same up on c q name j s e =
+    go (localAt (s .locals) j .present) refl (inTree (c .order) (localAt (s .locals) j .row) name) refl (leb (size q) (localAt (s .locals) j .free)) refl
+  where
+    go : (a : Bool) → localAt (s .locals) j .present ≡ a → (b : Bool) → inTree (c .order) (localAt (s .locals) j .row) name ≡ b → (d : Bool) → leb (size q) (localAt (s .locals) j .free) ≡ d
+        → takeBy up c q name j s ≡ takeBy on c q name j s
+    go true p true i true r = rw (p, i, r)
+    go true p true i false r = rw (p, i, r) (e _ _ (record { present = p; row = refl; free = refl }))
+    go true p false i d r = rw (p, i) (e _ _ (record { present = p; row = refl; free = refl }))
+    go false p b i d r = rw p
+
+-- from a local with one sync: whatever is done where the topped-up local will not take the frames, the answer and the words are the same
+pub topped-up : (falls : State → Way) (c : Config) (q : Request) (name : Name) (j : ℕ) (s : State)
+    → getLocal 1 c q name j s ≡ takeBy (topWith falls (getLocal 0 c q name j) c q j) c q name j s
+unfolding getLocal topUp
+topped-up falls c q name j s =
+    take-same (topUp 1 c q name j) (topWith falls (takeBy (topUp 0 c q name j) c q name j) c q j) c q name j s
+    (λ row free h. never-falls falls (takeBy (topUp 0 c q name j) c q name j) c q j row free s h)
 
 module _ (c : Config) (sz : Size (c .order)) (q : Request) (name : Name) (A : Asks c q name) (j : ℕ) where
   -- from a local; `up` leaves the rules standing

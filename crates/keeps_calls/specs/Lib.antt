@@ -2,4 +2,5 @@
 pub mod Asked
 pub mod Drains
 pub mod Fresh
-
+pub mod Puts
+pub mod Calls
