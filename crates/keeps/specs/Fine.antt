@@ -28,7 +28,7 @@ use Rattle.lower_laws.specs.Lower.{soughtTree, IsNamed, Named}
 use Rattle.lower_laws.specs.Below.{free-below}
 use Rattle.word_laws.specs.Sizes.{Size}
 use Rattle.hand.specs.Hand.{here, nothing, Hand, Kept}
-use Rattle.step_laws.specs.Steps.{else-ind, found-ind, unreserve-ind}
+use Rattle.step_laws.specs.Steps.{else-ind, askLower-ind, unreserve-ind}
 use Rattle.moves.specs.Moves.{hand-hold}
 use Rattle.moves.specs.Here.{here-same}
 use Rattle.moves.specs.Entries.{hand-put, hand-back, hand-reserved}
@@ -129,9 +129,9 @@ module _ (c : Config) (sz : Size (c .order)) (q : Request) (name : Name) (A : As
   -- the lower is asked for frames of tree t that are in hand
   pub askLower-fine : (s : State) (t row k : ℕ) → Hand c (s .trees) (s .locals) (s .bits) (here t (size q)) nothing → t < trees c → soughtTree (c .order) row name ≡ t → Configured c k
       → Fine c (q .order) name (s .bits) (askLower c q name t row k s)
-  unfolding askLower done missed putEntry withTrees withTry
+  unfolding putEntry withTrees withTry
   askLower-fine s t row k H lt at conf =
-      found-ind (Fine c (q .order) name (s .bits)) s (c .order) row (q .order) name _ _ (sz .least) (sz .most) (A .order)
+      askLower-ind (Fine c (q .order) name (s .bits)) c q name t row k s (sz .least) (sz .most) (A .order)
       (λ j N. (found-hold s (here t (size q)) nothing H row t at j N nothing (λ i. omega arith), found-granted s (here t (size q)) nothing H row t at j N k conf))
       (λ _. (hand-put c sz (s .trees) (s .locals) (s .bits) (here t (size q)) nothing H t lt (size q) nothing (λ i. omega arith), refl))
 

@@ -120,7 +120,7 @@ module _ (c : Config) (sz : Size (c .order)) (q : Request) (name : Name) (A : As
       (row-small (c .order) sz f (c .frames) (omega (arith, below)) (accepted-says c (K .config) .most)) same,
       found-granted c sz q name A s1 (here t (size q)) nothing K1 (l .row) t at b N (q .class) (A .class)))
       (λ _. (hand-put c sz (s .trees) ls (s .bits) (here t (size q)) nothing K1 t (K .inside j p) (size q) nothing (λ i. omega arith), refl)))
-      (λ p. g (localAt (s .locals) j .row) (localAt (s .locals) j .free) s (record { present = p; row = refl; free = refl }) K)
+      (λ p _. g (localAt (s .locals) j .row) (localAt (s .locals) j .free) s (record { present = p; row = refl; free = refl }) K)
       (λ _. (K, refl))
 
   topUp-fine : (k row free : ℕ) (s : State) → Holds (s .locals) j row free → Kept c (s .trees) (s .locals) (s .bits) → Fine c (q .order) name (s .bits) (topUp k c q name j row free s)
@@ -141,7 +141,7 @@ module _ (c : Config) (sz : Size (c .order)) (q : Request) (name : Name) (A : As
       (hand-fill c sz ts (s .locals) (s .bits) (here t x) nothing K1 j p x nothing (omega (arith, here-same t x (treeOn (c .order) (localAt (s .locals) j)) on))
       (λ i. (let d : here (treeOn (c .order) (localAt (s .locals) j)) x i ≡ here t x i = ap (λ (y : ℕ). here y x i) on in omega arith))))
       (λ no′. absurd (no′ (h .present) on)))
-      (K, refl))
+      (λ _. (K, refl)))
 
   pub getLocal-fine : (k : ℕ) (s : State) → Kept c (s .trees) (s .locals) (s .bits) → Fine c (q .order) name (s .bits) (getLocal k c q name j s)
   unfolding getLocal

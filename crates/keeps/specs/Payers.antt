@@ -52,7 +52,7 @@ module _ (c : Config) (sz : Size (c .order)) (q : Request) (name : Name) (A : As
       let t : ℕ = l .row / treeRows (c .order) in
       askLower-fine c sz q name A (withLocals s (set (s .locals) j (localWord (reservation (l .row) (l .free - size q))))) t (l .row) e
       (hand-take c sz (s .trees) (s .locals) (s .bits) nothing nothing K j p (size q) (here t (size q)) le (λ i. omega arith)) (K .inside j p) (in-sought (c .order) (l .row) name it) conf)
-      (λ p. (K, refl))
+      (λ p _. (K, refl))
       (λ p. (K, refl))
 
   pub stealLocal-fine : (s : State) → Kept c (s .trees) (s .locals) (s .bits) → Fine c (q .order) name (s .bits) (stealLocal c q name s)
@@ -113,7 +113,7 @@ module _ (c : Config) (sz : Size (c .order)) (q : Request) (name : Name) (A : As
       clear-ind (Fine c (q .order) name (s .bits)) (withLocals s ls) j _
       (subst (λ (x : Local). Fine c (q .order) name (s .bits) (demoteTo c q name x (q .local) (withLocals s (set ls j 0)))) (sym is)
       (demoteTo-fine (l .row) (l .free - size q) (row-lt (getD (s .locals) j 0)) few (K .inside j p) it (q .local) (A .local) (withLocals s (set ls j 0)) K3 good)))
-      (λ p. (K, refl))
+      (λ p _. (K, refl))
       (λ p. (K, refl))
 
   pub demoteLocal-fine : (s : State) → Kept c (s .trees) (s .locals) (s .bits) → Fine c (q .order) name (s .bits) (demoteLocal c q name s)

@@ -83,4 +83,4 @@ module _ (c : Config) (sz : Size (c .order)) (q : Request) (A : Asks c q Any) (x
       reserved-fine t old (withTrees s (set (s .trees) t (treeWord (entry 0 true (q .class)))))
       (hand-reserve c sz (s .trees) (s .locals) (s .bits) nothing nothing K t lt (q .class) (here t old) (here t 1) r (A .class) (λ i. omega arith) (λ i. omega arith)) lt le
       (ap (λ (e : Tree). e .class) (ap treeOf (getD-set-same (s .trees) t (treeWord (entry 0 true (q .class))) 0 (omega (arith, lt, K .treeWords))) ∙ tree-word 0 true (q .class) (omega arith) (A .class .0))))
-      (K, refl)
+      (λ _. (K, refl))

@@ -29,4 +29,4 @@ module _ (c : Config) (sz : Size (c .order)) (q : Request) (name : Name) (A : As
       let conf : Configured c x = ⊎-elim (λ e. subst (Configured c) (sym e) (A .class)) (λ e. subst (Configured c) (sym e) (K .class t lt)) or in
       askLower-fine c sz q name A (withTrees s (set (s .trees) t (treeWord (entry (entryAt (s .trees) t .free - size q) false x)))) t (t * treeRows (c .order)) x
       (hand-steal c sz (s .trees) (s .locals) (s .bits) nothing nothing K t lt (size q) x (here t (size q)) r le conf (λ i. omega arith)) lt at conf)
-      (K, refl)
+      (λ _. (K, refl))

@@ -1,6 +1,7 @@
 -- What it says of a request that it is not refused before the routes; and the tree of its frame. Assumes nothing.
 use mathlib.Core.Path.{_≡_, refl, sym, ap, _∙_, subst}
 use mathlib.Core.Bool.{Bool, true, false}
+use mathlib.Core.Logic.{_⊎_, inl, inr}
 use mathlib.Core.List.{List}
 use Prim.Native.Nat.{ℕ, zero, suc, _+_, _-_, _*_, _/_, _%_, _^_, _<_, _≤_}
 use native.Mathlib.Nat.{le-div-iff-mul-le, mul-le-mul-left, mul-comm}
@@ -23,6 +24,7 @@ use Rattle.policy_laws.specs.Kinds.{configured-fact}
 use Rattle.policy_laws.specs.Accepted.{accepted-says, trees-most}
 use Rattle.word_laws.specs.Sizes.{Size, tree-below}
 use Rattle.hand.specs.Hand.{Kept}
+use Rattle.step_laws.specs.Steps.{ifte-ind}
 use Rattle.keeps.specs.Fine.{Asks, LocalIn, FrameIn}
 
 -- a request for a block at frame f that no argument test refuses
@@ -77,6 +79,35 @@ accepts c q f e =
       class = g .0;
       local = g .1;
     }
+
+-- the refusals 2 to 6, or none
+abbrev InRange : ℕ → Type 0
+InRange n = (n ≡ 0) ⊎ ((2 ≤ n) × (n ≤ 6))
+
+local-range : (c : Config) (k : ℕ) (l : Given) → InRange (refuseLocal c k l)
+unfolding refuseLocal
+local-range c k (Given.Local i) = go (ltb i (localsOf (c .places) k))
+  where
+    go : (b : Bool) → InRange (pick b 0 6)
+    go true = inl refl
+    go false = inr (omega arith, omega arith)
+local-range c k Given.Nothing = inl refl
+
+class-range : (c : Config) (q : Request) → InRange (refuseClass c q)
+unfolding refuseClass
+class-range c q = go (ltb 7 (q .class)) (configured (c .places) (q .class))
+  where
+    go : (a b : Bool) → InRange (pick a 5 (pick b (refuseLocal c (q .class) (q .local)) 5))
+    go true b = inr (omega arith, omega arith)
+    go false true = local-range c (q .class) (q .local)
+    go false false = inr (omega arith, omega arith)
+
+pub refusal-range : (c : Config) (q : Request) (f : ℕ) → (refusal c q f ≡ 0) ⊎ ((2 ≤ refusal c q f) × (refusal c q f ≤ 6))
+unfolding refusal
+refusal-range c q f =
+    ifte-ind InRange (ltb (c .order) (q .order)) _ _ (λ _. inr (omega arith, omega arith)) (λ _.
+    ifte-ind InRange (ltb (c .frames) (f + 2 ^ q .order)) _ _ (λ _. inr (omega arith, omega arith)) (λ _.
+    ifte-ind InRange (eqb (f % 2 ^ q .order) 0) _ _ (λ _. class-range c q) (λ _. inr (omega arith, omega arith))))
 
 -- a get of a named frame, or of none
 pub asks : (c : Config) (q : Request) (name : Name) → Accepted c q (frameOf name) → Asks c q name

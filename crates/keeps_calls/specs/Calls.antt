@@ -1,7 +1,7 @@
 -- What one call does to a state that passes the standing rules. One record for each call. Assumes nothing.
 use mathlib.Core.Path.{_≡_, refl, sym, ap, _∙_, subst}
 use mathlib.Core.Bool.{Bool, true, false}
-use mathlib.Core.Logic.{_≢_, _⊎_, inl, inr}
+use mathlib.Core.Logic.{_≢_, _⊎_, inl, inr, ⊎-elim}
 use mathlib.Core.List.{List}
 use Prim.Native.Nat.{ℕ, zero, suc, _+_, _-_, _*_, _/_, _%_, _^_, _<_, _≤_}
 use native.Mathlib.Omega.{arith}
@@ -28,7 +28,7 @@ use Rattle.step_laws.specs.Answers.{unless-ind, standing-ind, given-ind}
 use Rattle.moves.specs.Moves.{hand-free}
 use Rattle.keeps.specs.Fine.{Granted, Fine, aligned-block}
 use Rattle.keeps.specs.Routes.{routes-fine}
-use Rattle.keeps_calls.specs.Asked.{Accepted, accepts, asks, asked-tree, has-trees}
+use Rattle.keeps_calls.specs.Asked.{Accepted, accepts, refusal-range, asks, asked-tree, has-trees}
 use Rattle.keeps_calls.specs.Drains.{Drained, all-drained, none-left}
 use Rattle.keeps_calls.specs.Fresh.{fresh-clear, fresh-set, zeros-at, fresh-entry, bits-length, fresh-kept}
 use Rattle.keeps_calls.specs.Puts.{putTo-settled}
@@ -39,6 +39,18 @@ pub record GetKeeps (c : Config) (q : Request) (name : Name) (b : List ℕ) (r :
   pub kept : Kept c (r .trees) (r .locals) (r .bits)
   -- Done or Memory: never Stuck
   pub number : (r .number ≡ 0) ⊎ (r .number ≡ 7)
+  -- Done: the block was wholly free, aligned, below F, and the named one; it is what the bitmap holds more; its class is configured
+  pub granted : r .number ≡ 0 → Granted c (q .order) name b (r .frame) (r .class) (r .bits)
+  -- else no bit changes
+  pub unchanged : r .number ≢ 0 → r .bits ≡ b
+
+-- get, of any request: what a sequence of calls goes by
+pub record GetAny (c : Config) (q : Request) (name : Name) (t l b : List ℕ) (r : Told) : Type 0 where
+  -- the rules stand
+  pub kept : Kept c (r .trees) (r .locals) (r .bits)
+  -- never Broken, never Stuck
+  pub sound : r .number ≢ 1
+  pub loose : r .number ≢ 9
   -- Done: the block was wholly free, aligned, below F, and the named one; it is what the bitmap holds more; its class is configured
   pub granted : r .number ≡ 0 → Granted c (q .order) name b (r .frame) (r .class) (r .bits)
   -- else no bit changes
@@ -67,6 +79,18 @@ pub record PutKeeps (c : Config) (q : Request) (f : ℕ) (t l b : List ℕ) (r :
   pub returned : r .number ≡ 0 → Returned c (q .order) b f (r .bits)
   -- NotHeld: a frame of the block is free, and nothing changes
   pub refused : r .number ≡ 8 → (heldIn b (q .order) (f / 2 ^ q .order) ≢ 2 ^ q .order) × ((r .trees ≡ t) × ((r .locals ≡ l) × (r .bits ≡ b)))
+
+-- put, of any request: what a sequence of calls goes by
+pub record PutAny (c : Config) (q : Request) (f : ℕ) (t l b : List ℕ) (r : Told) : Type 0 where
+  -- the rules stand
+  pub kept : Kept c (r .trees) (r .locals) (r .bits)
+  -- never Broken, never Stuck
+  pub sound : r .number ≢ 1
+  pub loose : r .number ≢ 9
+  -- Done: the block was wholly held, and is now free
+  pub returned : r .number ≡ 0 → Returned c (q .order) b f (r .bits)
+  -- else nothing changes
+  pub unchanged : r .number ≢ 0 → (r .trees ≡ t) × ((r .locals ≡ l) × (r .bits ≡ b))
 
 -- ---- drain
 pub record DrainKeeps (c : Config) (b : List ℕ) (r : Told) : Type 0 where
@@ -174,6 +198,43 @@ module _ (c : Config) (t l b : List ℕ) where
           refused = λ _. (no′ (has-trees c t l b K (f / treeFrames (c .order)) lt), (refl, (refl, refl)));
         })))
         (λ g. true-false S g)
+
+    -- get and put of any request
+    pub get-any : (q : Request) (name : Name) → GetAny c q name t l b (get c q name t l b)
+    get-any q name = go (refusal c q (frameOf name)) refl
+      where
+        go : (n : ℕ) → refusal c q (frameOf name) ≡ n → GetAny c q name t l b (get c q name t l b)
+        go zero e =
+            let G = get-keeps q name e in
+            record {
+              kept = G .kept;
+              sound = λ x. ⊎-elim (λ y. omega (arith, x, y)) (λ y. omega (arith, x, y)) (G .number);
+              loose = λ x. ⊎-elim (λ y. omega (arith, x, y)) (λ y. omega (arith, x, y)) (G .number);
+              granted = G .granted;
+              unchanged = G .unchanged;
+            }
+        go (suc n) e =
+            let R = ⊎-elim {C = (1 ≤ n) × (n ≤ 5)} (λ y. absurd (omega (arith, e, y))) (λ y. (omega (arith, e, y .0), omega (arith, e, y .1))) (refusal-range c q (frameOf name)) in
+            subst (GetAny c q name t l b) (sym (get-refused q name n S e))
+            (record { kept = K; sound = λ x. omega (arith, x, R .0); loose = λ x. omega (arith, x, R .1); granted = λ x. absurd (omega (arith, x)); unchanged = λ _. refl })
+
+    pub put-any : (q : Request) (f : ℕ) → PutAny c q f t l b (put c q f t l b)
+    put-any q f = go (refusal c q f) refl
+      where
+        go : (n : ℕ) → refusal c q f ≡ n → PutAny c q f t l b (put c q f t l b)
+        go zero e =
+            let P = put-keeps q f e in
+            record {
+              kept = P .kept;
+              sound = λ x. ⊎-elim (λ y. omega (arith, x, y)) (λ y. omega (arith, x, y)) (P .number);
+              loose = λ x. ⊎-elim (λ y. omega (arith, x, y)) (λ y. omega (arith, x, y)) (P .number);
+              returned = P .returned;
+              unchanged = λ x. ⊎-elim (λ y. absurd (x y)) (λ y. P .refused y .1) (P .number);
+            }
+        go (suc n) e =
+            let R = ⊎-elim {C = (1 ≤ n) × (n ≤ 5)} (λ y. absurd (omega (arith, e, y))) (λ y. (omega (arith, e, y .0), omega (arith, e, y .1))) (refusal-range c q f) in
+            subst (PutAny c q f t l b) (sym (put-refused q f n S e))
+            (record { kept = K; sound = λ x. omega (arith, x, R .0); loose = λ x. omega (arith, x, R .1); returned = λ x. absurd (omega (arith, x)); unchanged = λ _. (refl, (refl, refl)) })
 
     -- drain
     drained-keeps : (w : Out Bool State) → Drained c b (localCount (c .places)) w → DrainKeeps c b (closeDrain w)

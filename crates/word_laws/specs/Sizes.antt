@@ -11,6 +11,10 @@ pub record Size (z : ℕ) : Type 0 where
   pub least : 6 ≤ z
   pub most : z ≤ 18
 
+-- order 11 is one
+pub size-eleven : Size 11
+size-eleven = record { least = omega arith; most = omega arith }
+
 module _ (z : ℕ) (sz : Size z) where
   pub frames-rows : treeFrames z ≡ 64 * treeRows z
   frames-rows = let e : z ≡ 6 + (z - 6) = omega (arith, sz .least) in ap (λ (x : ℕ). 2 ^ x) e ∙ pow-add 2 6 (z - 6)
