@@ -115,10 +115,11 @@ module _ (c : Config) (sz : Size (c .order)) (q : Request) (name : Name) (A : As
       let place = found-place c sz q name A s1 (here t (size q)) nothing K1 (l .row) t at b N in
       let below = found-below c sz q name A s1 (here t (size q)) nothing K1 (l .row) t at b N in
       let K2 = found-hold c sz q name A s1 (here t (size q)) nothing K1 (l .row) t at b N nothing (λ i. omega arith) in
-      let same : f / 64 / treeRows (c .order) ≡ treeOn (c .order) (localAt ls j) = row-of (c .order) sz f ∙ tree-of (c .order) sz t f (place .low) (omega (arith, place .high, pow-pos (q .order))) ∙ sym (ap (λ (x : Local). x .row / treeRows (c .order)) e) in
-      (hand-row c sz (s .trees) ls (mark true (s .bits) (q .order) b) nothing nothing K2 j (ap (λ (x : Local). x .present) e) (f / 64)
-      (row-small (c .order) sz f (c .frames) (omega (arith, below)) (accepted-says c (K .config) .most)) same,
-      found-granted c sz q name A s1 (here t (size q)) nothing K1 (l .row) t at b N (q .class) (A .class)))
+      let same : f / 64 / treeRows (c .order) ≡ treeOn (c .order) (localAt ls j) = row-of (c .order) sz f ∙ tree-of (c .order) sz t f (place .low) (omega (arith, place .high, pow-pos (q .order))) ∙ sym (ap (λ (x : Local). x .row / treeRows (c .order)) e) in (
+        hand-row c sz (s .trees) ls (mark true (s .bits) (q .order) b) nothing nothing K2 j (ap (λ (x : Local). x .present) e) (f / 64)
+            (row-small (c .order) sz f (c .frames) (omega (arith, below)) (accepted-says c (K .config) .most)) same,
+        found-granted c sz q name A s1 (here t (size q)) nothing K1 (l .row) t at b N (q .class) (A .class),
+      ))
       (λ _. (hand-put c sz (s .trees) ls (s .bits) (here t (size q)) nothing K1 t (K .inside j p) (size q) nothing (λ i. omega arith), refl)))
       (λ p _. g (localAt (s .locals) j .row) (localAt (s .locals) j .free) s (record { present = p; row = refl; free = refl }) K)
       (λ _. (K, refl))

@@ -33,7 +33,10 @@ module _ (c : Config) (sz : Size (c .order)) (q : Request) (f : ℕ) (lt : f / t
       let t : ℕ = f / treeFrames (c .order) in
       let j : ℕ = slot (c .places) (q .class) i in
       put-ind (Settled c (s .bits)) s (c .order) j t (size q) _ _
-      (λ p on. (hand-fill c sz (s .trees) (s .locals) (s .bits) (here t (size q)) nothing H j p (size q) nothing (omega (arith, here-same t (size q) (treeOn (c .order) (localAt (s .locals) j)) on))
-      (λ x. (let d : here (treeOn (c .order) (localAt (s .locals) j)) (size q) x ≡ here t (size q) x = ap (λ (y : ℕ). here y (size q) x) on in omega arith)), refl))
+      (λ p on. (
+        hand-fill c sz (s .trees) (s .locals) (s .bits) (here t (size q)) nothing H j p (size q) nothing (omega (arith, here-same t (size q) (treeOn (c .order) (localAt (s .locals) j)) on))
+            (λ x. (let d : here (treeOn (c .order) (localAt (s .locals) j)) (size q) x ≡ here t (size q) x = ap (λ (y : ℕ). here y (size q) x) on in omega arith)),
+        refl,
+      ))
       (λ _. entry-settled s H)
   putTo-settled Given.Nothing s H = entry-settled s H
