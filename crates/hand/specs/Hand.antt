@@ -1,9 +1,9 @@
 -- The standing rules with something in hand: frames and reservations of a tree that are in no word between two steps of a call.
 -- Every call is a chain of moves between such states that begins and ends with nothing in hand. Assumes nothing.
 use mathlib.Core.Path.{_≡_}
-use mathlib.Core.Bool.{Bool, true, false}
+use mathlib.Core.Bool.{true, false}
 use mathlib.Core.List.{List}
-use Prim.Native.Nat.{ℕ, _+_, _-_, _*_, _/_, _^_, _<_, _≤_}
+use Prim.Native.Nat.{ℕ, _+_, _-_, _*_, _<_, _≤_}
 use lib.Dec.{eqb}
 use lib.ListN.{getD, length}
 use Rattle.rules.specs.Base.{pick, bitOf, sum}

@@ -1,16 +1,14 @@
 -- What is shown of each route: the rules stand, it is not stuck, a granted block was wholly free. Assumes nothing.
 use mathlib.Core.Path.{_≡_, refl, sym, ap, _∙_, subst}
-use mathlib.Core.Bool.{Bool, true, false}
-use mathlib.Core.Logic.{_⊎_, inl, inr, ⊎-elim}
+use mathlib.Core.Bool.{true}
+use mathlib.Core.Logic.{_⊎_, ⊎-elim}
 use mathlib.Core.List.{List}
-use Prim.Native.Nat.{ℕ, zero, suc, _+_, _-_, _*_, _/_, _%_, _^_, _<_, _≤_}
+use Prim.Native.Nat.{ℕ, _+_, _-_, _*_, _/_, _%_, _^_, _<_, _≤_}
 use native.Mathlib.Nat.{mul-comm, div-add-mod}
 use native.Mathlib.Omega.{arith}
-use lib.Dec.{eqb}
-use lib.ListN.{length, getD, set}
 use borrow.Author.Tests.{eqb-true}
-use Rattle.rules.specs.Base.{Out, out}
-use Rattle.rules.specs.Words.{Config, treeFrames, treeRows, trees, localsOf, entryAt, localAt}
+use Rattle.rules.specs.Base.{out}
+use Rattle.rules.specs.Words.{Config, treeRows, trees, localsOf, entryAt}
 use Rattle.rules.specs.Policy.{Configured, Good}
 use Rattle.rules.specs.Locals.{inTree}
 use Rattle.rules.specs.Lower.{heldIn, mark}
@@ -21,7 +19,7 @@ use Rattle.rules.specs.declared.Given.the-variants as Given
 use Rattle.rules.specs.declared.Request.{Request}
 use Rattle.ways.specs.declared.Got.{Got}
 use Rattle.ways.specs.declared.Got.the-variants as Got
-use Rattle.ways.specs.State.{State, Way, size, done, missed, orElse, withTrees, withTry, putEntry, askLower, unreserve}
+use Rattle.ways.specs.State.{State, Way, size, orElse, withTrees, withTry, putEntry, askLower, unreserve}
 use Rattle.lower_laws.specs.Block.{Block}
 use Rattle.lower_laws.specs.Power.{Inside}
 use Rattle.lower_laws.specs.Lower.{soughtTree, IsNamed, Named}

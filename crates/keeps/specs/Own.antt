@@ -2,14 +2,14 @@
 use mathlib.Core.Path.{_≡_, refl, sym, ap, _∙_, subst}
 use mathlib.Core.Bool.{Bool, true, false}
 use mathlib.Core.List.{List}
-use Prim.Native.Nat.{ℕ, zero, suc, _+_, _-_, _*_, _/_, _%_, _^_, _<_, _≤_}
+use Prim.Native.Nat.{ℕ, zero, suc, _-_, _*_, _/_, _^_, _<_}
 use native.Mathlib.Omega.{arith}
 use lib.Dec.{leb, ltb}
-use lib.ListN.{length, getD, set}
+use lib.ListN.{getD, set}
 use lib.Pow.{pow-pos}
 use borrow.Author.Tests.{eq-eqb}
 use Rattle.rules.specs.Base.{ifte, Out, out}
-use Rattle.rules.specs.Words.{Config, treeFrames, treeRows, trees, slot, treeWord, localWord, entry, entryAt, localAt}
+use Rattle.rules.specs.Words.{Config, treeRows, trees, slot, treeWord, localWord, entry, entryAt, localAt}
 use Rattle.rules.specs.Entries.{entrySync}
 use Rattle.rules.specs.Locals.{reservation, inTree, localTake, localPut}
 use Rattle.rules.specs.Lower.{mark}
@@ -24,7 +24,7 @@ use Rattle.ways.specs.State.{State, Way, size, done, missed, missedAt, onHeld, 
 use Rattle.ways.specs.Standing.{treeOn}
 use Rattle.ways.specs.Locals.{takeBy, topBy, topUp, getLocal, ownLocal}
 use Rattle.word_laws.specs.Sizes.{Size, frames-le, row-of, tree-of, row-small}
-use Rattle.word_laws.specs.Words.{row-lt, present-lt, free-there}
+use Rattle.word_laws.specs.Words.{row-lt, present-lt}
 use Rattle.policy_laws.specs.Accepted.{accepted-says}
 use Rattle.hand.specs.Hand.{here, nothing, Hand, Kept}
 use Rattle.step_laws.specs.Steps.{ifte-ind, found-ind, held-ind, put-ind, sync-ind}

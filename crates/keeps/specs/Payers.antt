@@ -1,11 +1,11 @@
 -- Steal from locals and demote leave the rules standing. Assumes nothing.
-use mathlib.Core.Path.{_≡_, refl, sym, ap, _∙_, subst}
-use mathlib.Core.Bool.{Bool, true, false}
+use mathlib.Core.Path.{_≡_, refl, sym, _∙_, subst}
+use mathlib.Core.Bool.{true}
 use mathlib.Core.List.{List}
-use Prim.Native.Nat.{ℕ, zero, suc, _+_, _-_, _*_, _/_, _%_, _^_, _<_, _≤_}
+use Prim.Native.Nat.{ℕ, _+_, _-_, _/_, _^_, _<_}
 use native.Mathlib.Omega.{arith}
-use lib.ListN.{length, getD, set, length-set}
-use Rattle.rules.specs.Words.{Config, treeFrames, treeRows, trees, localsOf, slot, localWord, entryAt, localAt}
+use lib.ListN.{getD, set, length-set}
+use Rattle.rules.specs.Words.{Config, treeRows, trees, slot, localWord, entryAt, localAt}
 use Rattle.rules.specs.Policy.{policy, kindAt, Configured, Good}
 use Rattle.rules.specs.Locals.{reservation, inTree, mayPay, mayMove, stealAny, demoteAny}
 use Rattle.rules.specs.declared.Local.{Local}
@@ -17,7 +17,7 @@ use Rattle.rules.specs.declared.Given.the-variants as Given
 use Rattle.rules.specs.declared.Request.{Request}
 use Rattle.rules.specs.declared.Payer.{Payer}
 use Rattle.rules.specs.declared.Payer.the-variants as Payer
-use Rattle.ways.specs.State.{State, Way, size, indexOf, missed, stuck, withTrees, withLocals}
+use Rattle.ways.specs.State.{State, size, indexOf, missed, withTrees, withLocals}
 use Rattle.ways.specs.Standing.{treeOn}
 use Rattle.ways.specs.Locals.{payFrom, stealLocal, demoteTo, moveFrom, demoteLocal}
 use Rattle.word_laws.specs.Sizes.{Size, frames-le}

@@ -1,21 +1,20 @@
 -- Reserve or steal leaves the rules standing: a reservation stored, the one it replaces returned; or undone. Assumes nothing.
-use mathlib.Core.Path.{_≡_, refl, sym, ap, _∙_, subst}
-use mathlib.Core.Bool.{Bool, true, false}
+use mathlib.Core.Path.{_≡_, refl, sym, ap, _∙_}
+use mathlib.Core.Bool.{true, false}
 use mathlib.Core.List.{List}
-use Prim.Native.Nat.{ℕ, zero, suc, _+_, _-_, _*_, _/_, _%_, _^_, _<_, _≤_}
+use Prim.Native.Nat.{ℕ, _+_, _-_, _*_, _/_, _^_, _<_, _≤_}
 use native.Mathlib.Omega.{arith}
-use lib.ListN.{length, getD, set}
+use lib.ListN.{set}
 use lib.Seq.{getD-set-same}
-use Rattle.rules.specs.Words.{Config, treeFrames, treeRows, trees, localsOf, slot, treeOf, treeWord, localWord, entry, entryAt, localAt}
+use Rattle.rules.specs.Words.{Config, treeRows, trees, localsOf, slot, treeOf, treeWord, localWord, entry, entryAt, localAt}
 use Rattle.rules.specs.Policy.{Configured, Good}
 use Rattle.rules.specs.Locals.{reservation}
 use Rattle.rules.specs.Lower.{mark}
 use Rattle.rules.specs.declared.Local.{Local}
 use Rattle.rules.specs.declared.Tree.{Tree}
-use Rattle.rules.specs.declared.Name.{Name}
 use Rattle.rules.specs.declared.Name.the-variants.{Any}
 use Rattle.rules.specs.declared.Request.{Request}
-use Rattle.ways.specs.State.{State, Way, size, done, missed, withTrees, withLocals, withTry, unreserveLocal}
+use Rattle.ways.specs.State.{State, size, done, missed, withTrees, withLocals, withTry, unreserveLocal}
 use Rattle.ways.specs.Standing.{treeOn}
 use Rattle.ways.specs.Walk.{reserved, reserveOrSteal}
 use Rattle.word_laws.specs.Sizes.{Size, frames-le, first-row, first-small}

@@ -1,20 +1,20 @@
 -- All routes of a get leave the rules standing. Assumes nothing.
-use mathlib.Core.Path.{_≡_, refl, sym, ap, _∙_, subst}
+use mathlib.Core.Path.{_≡_, refl, subst}
 use mathlib.Core.List.{List}
-use Prim.Native.Nat.{ℕ, zero, suc, _+_, _-_, _*_, _/_, _%_, _^_, _<_, _≤_}
+use Prim.Native.Nat.{ℕ, _-_, _/_}
 use native.Mathlib.Omega.{arith}
 use lib.Dec.{ltb}
 use lib.Pow.{pow-pos}
-use Rattle.rules.specs.Words.{Config, treeFrames, treeRows, trees, localsOf, slot}
+use Rattle.rules.specs.Words.{Config, treeFrames, trees, localsOf, slot}
 use Rattle.rules.specs.declared.Name.{Name}
 use Rattle.rules.specs.declared.Name.the-variants.{Any, Frame}
 use Rattle.rules.specs.declared.Given.{Given}
 use Rattle.rules.specs.declared.Given.the-variants as Given
 use Rattle.rules.specs.declared.Request.{Request}
-use Rattle.ways.specs.State.{State, Way, orElse}
+use Rattle.ways.specs.State.{State}
 use Rattle.ways.specs.Locals.{getLocal}
 use Rattle.ways.specs.Search.{searchAndReserve}
-use Rattle.ways.specs.Get.{lastRoutes, getAt, startTree, orFrom, getReserving, searchTrees, getAny, routes}
+use Rattle.ways.specs.Get.{lastRoutes, getAt, startTree, getReserving, searchTrees, getAny, routes}
 use Rattle.word_laws.specs.Sizes.{Size, tree-below}
 use Rattle.hand.specs.Hand.{Kept}
 use Rattle.step_laws.specs.Steps.{ifte-ind, from-ind}

@@ -1,20 +1,18 @@
 -- The walks and the searches leave the rules standing. Assumes nothing.
-use mathlib.Core.Path.{_≡_, refl, sym, ap, _∙_, subst}
-use mathlib.Core.Bool.{Bool, true, false}
-use mathlib.Core.List.{List, [], _∷_}
-use Prim.Native.Nat.{ℕ, zero, suc, _+_, _-_, _*_, _/_, _%_, _^_, _<_, _≤_}
-use native.Mathlib.Omega.{arith}
+use mathlib.Core.Path.{_≡_, refl, subst}
+use mathlib.Core.List.{List, []}
+use Prim.Native.Nat.{ℕ, _+_, _-_, _<_}
 use lib.Dec.{ltb}
 use Rattle.rules.specs.Base.{Out, out}
-use Rattle.rules.specs.Words.{Config, treeRows, hugeOrder, trees, localsOf, slot}
+use Rattle.rules.specs.Words.{Config, hugeOrder, trees, localsOf, slot}
 use Rattle.rules.specs.declared.Name.the-variants.{Any}
 use Rattle.rules.specs.declared.Request.{Request}
 use Rattle.ways.specs.declared.Got.{Got}
 use Rattle.ways.specs.declared.Got.the-variants as Got
 use Rattle.ways.specs.declared.Walk.{Walk}
 use Rattle.ways.specs.declared.Walk.the-variants as Walk
-use Rattle.ways.specs.State.{State, Way, orElse, withLook}
-use Rattle.ways.specs.Walk.{place, Candidate, access, Sight, sight, tried, visit, walk, tryList, stopped, searchBest}
+use Rattle.ways.specs.State.{State, withLook}
+use Rattle.ways.specs.Walk.{place, Candidate, access, Sight, sight, visit, walk, tryList, stopped, searchBest}
 use Rattle.ways.specs.Search.{near, roundedStart, searchFar, searchFrom, searchAndReserve, searchAndSteal}
 use Rattle.word_laws.specs.Sizes.{Size, first-row}
 use Rattle.policy_laws.specs.Accepted.{accepted-says, trees-some}

@@ -1,16 +1,15 @@
 -- Steal globally leaves the rules standing. Assumes nothing.
-use mathlib.Core.Path.{_≡_, refl, sym, ap, _∙_, subst}
-use mathlib.Core.Bool.{Bool, true, false}
-use mathlib.Core.Logic.{_⊎_, inl, inr, ⊎-elim}
-use mathlib.Core.List.{List}
-use Prim.Native.Nat.{ℕ, zero, suc, _+_, _-_, _*_, _/_, _%_, _^_, _<_, _≤_}
+use mathlib.Core.Path.{_≡_, refl, sym, subst}
+use mathlib.Core.Bool.{false}
+use mathlib.Core.Logic.{_⊎_, ⊎-elim}
+use Prim.Native.Nat.{ℕ, _-_, _*_, _<_}
 use native.Mathlib.Omega.{arith}
-use lib.ListN.{length, getD, set}
-use Rattle.rules.specs.Words.{Config, treeFrames, treeRows, trees, treeWord, entry, entryAt}
+use lib.ListN.{set}
+use Rattle.rules.specs.Words.{Config, treeRows, trees, treeWord, entry, entryAt}
 use Rattle.rules.specs.Policy.{Configured}
 use Rattle.rules.specs.declared.Name.{Name}
 use Rattle.rules.specs.declared.Request.{Request}
-use Rattle.ways.specs.State.{State, Way, size, missed, withTrees}
+use Rattle.ways.specs.State.{State, size, missed, withTrees}
 use Rattle.ways.specs.Walk.{stealGlobal}
 use Rattle.lower_laws.specs.Lower.{soughtTree}
 use Rattle.word_laws.specs.Sizes.{Size}

@@ -1,16 +1,16 @@
 -- What it says of a request that it is not refused before the routes; and the tree of its frame. Assumes nothing.
-use mathlib.Core.Path.{_≡_, refl, sym, ap, _∙_, subst}
+use mathlib.Core.Path.{_≡_, refl}
 use mathlib.Core.Bool.{Bool, true, false}
 use mathlib.Core.Logic.{_⊎_, inl, inr}
 use mathlib.Core.List.{List}
-use Prim.Native.Nat.{ℕ, zero, suc, _+_, _-_, _*_, _/_, _%_, _^_, _<_, _≤_}
+use Prim.Native.Nat.{ℕ, suc, _+_, _-_, _*_, _/_, _%_, _^_, _<_, _≤_}
 use native.Mathlib.Nat.{le-div-iff-mul-le, mul-le-mul-left, mul-comm}
 use native.Mathlib.Omega.{arith}
-use lib.Dec.{eqb, ltb, leb}
+use lib.Dec.{eqb, ltb}
 use lib.ListN.{length}
 use lib.Pow.{pow-pos}
 use borrow.Author.Tests.{eqb-true, ltb-true, ltb-false, lt-ltb, le-leb}
-use Rattle.rules.specs.Base.{pick, both, ifte}
+use Rattle.rules.specs.Base.{pick, ifte}
 use Rattle.rules.specs.Words.{Config, treeFrames, treeRows, trees, configured, localsOf}
 use Rattle.rules.specs.Policy.{Configured}
 use Rattle.rules.specs.Lower.{hasTree}
@@ -25,7 +25,7 @@ use Rattle.policy_laws.specs.Accepted.{accepted-says, trees-most}
 use Rattle.word_laws.specs.Sizes.{Size, tree-below}
 use Rattle.hand.specs.Hand.{Kept}
 use Rattle.step_laws.specs.Steps.{ifte-ind}
-use Rattle.keeps.specs.Fine.{Asks, LocalIn, FrameIn}
+use Rattle.keeps.specs.Fine.{Asks, LocalIn}
 
 -- a request for a block at frame f that no argument test refuses
 pub record Accepted (c : Config) (q : Request) (f : ℕ) : Type 0 where

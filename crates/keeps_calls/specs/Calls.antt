@@ -3,10 +3,10 @@ use mathlib.Core.Path.{_≡_, refl, sym, ap, _∙_, subst}
 use mathlib.Core.Bool.{Bool, true, false}
 use mathlib.Core.Logic.{_≢_, _⊎_, inl, inr, ⊎-elim}
 use mathlib.Core.List.{List}
-use Prim.Native.Nat.{ℕ, zero, suc, _+_, _-_, _*_, _/_, _%_, _^_, _<_, _≤_}
+use Prim.Native.Nat.{ℕ, zero, suc, _+_, _-_, _*_, _/_, _^_, _<_, _≤_}
 use native.Mathlib.Omega.{arith}
 use lib.ListN.{length, getD}
-use Rattle.rules.specs.Base.{both, Out, out, listed}
+use Rattle.rules.specs.Base.{both, Out, out}
 use Rattle.rules.specs.Words.{Config, treeFrames, treeRows, trees, localCount, entryAt}
 use Rattle.rules.specs.Policy.{accepted}
 use Rattle.rules.specs.Lower.{bit, heldIn, mark}
@@ -14,12 +14,11 @@ use Rattle.rules.specs.declared.Name.{Name}
 use Rattle.rules.specs.declared.Request.{Request}
 use Rattle.rules.specs.declared.Tree.{Tree}
 use Rattle.ways.specs.declared.Got.the-variants as Got
-use Rattle.ways.specs.State.{State, st, Way, size, withBits}
+use Rattle.ways.specs.State.{State, Way, size, withBits}
 use Rattle.ways.specs.Get.{routes}
 use Rattle.ways.specs.Standing.{standing, lengthsExact}
-use Rattle.ways.specs.Calls.{Told, telling, fresh, refusal, unless, ifStanding, close, frameOf, get, putTo, onGiven, put, drainClasses, closeDrain, drain, freeAtStart, freshTree, freshWord, freshState, start}
+use Rattle.ways.specs.Calls.{Told, telling, fresh, refusal, close, frameOf, get, put, drainClasses, closeDrain, drain, freeAtStart, freshState, start}
 use Rattle.lower_laws.specs.Block.{Block}
-use Rattle.lower_laws.specs.Lower.{Given}
 use Rattle.word_laws.specs.Sizes.{Size, count-frames, count-bits}
 use Rattle.policy_laws.specs.All.{true-false, both-left}
 use Rattle.hand.specs.Hand.{here, nothing, Kept}
@@ -277,3 +276,8 @@ module _ (c : Config) (t l b : List ℕ) where
   pub start-refused : (allFree : Bool) → both (accepted c) (lengthsExact c t l b) ≡ false → start c allFree t l b ≡ telling 10 0 0 (fresh t l b)
   unfolding start
   start-refused allFree e = ifte-ind (λ (r : Told). r ≡ telling 10 0 0 (fresh t l b)) (both (accepted c) (lengthsExact c t l b)) _ _ (λ h. true-false h e) (λ _. refl)
+
+  -- a start that is Done was accepted
+  pub start-done : (allFree : Bool) → start c allFree t l b .number ≡ 0 → both (accepted c) (lengthsExact c t l b) ≡ true
+  unfolding start
+  start-done allFree = ifte-ind (λ (r : Told). r .number ≡ 0 → both (accepted c) (lengthsExact c t l b) ≡ true) (both (accepted c) (lengthsExact c t l b)) _ _ (λ h _. h) (λ _ e. absurd (omega (arith, e)))

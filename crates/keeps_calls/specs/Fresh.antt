@@ -1,7 +1,6 @@
 -- The words that a start writes: the first g frames are free, all others held, and the rules stand. Assumes nothing.
-use mathlib.Core.Path.{_≡_, refl, sym, ap, _∙_, subst}
+use mathlib.Core.Path.{_≡_, refl, sym, ap, _∙_}
 use mathlib.Core.Bool.{Bool, true, false}
-use mathlib.Core.List.{List}
 use Prim.Native.Nat.{ℕ, zero, suc, _+_, _-_, _*_, _/_, _%_, _^_, _<_, _≤_, min}
 use native.Mathlib.Nat.{zero-add, add-zero, mul-comm}
 use native.Mathlib.Omega.{arith}
@@ -10,12 +9,10 @@ use lib.Dec.{leb}
 use lib.ListN.{length, getD, List·getD-eq-default}
 use lib.Pow.{pow-pos, high-ones}
 use borrow.Author.Tests.{leb-true, leb-false}
-use Rattle.rules.specs.Base.{pick, bitOf, sum, listed}
-use Rattle.rules.specs.Words.{Config, treeFrames, treeRows, treeCount, trees, localCount, treeOf, treeWord, localOf, entry, entryAt, localAt}
+use Rattle.rules.specs.Base.{pick, sum, listed}
+use Rattle.rules.specs.Words.{Config, treeFrames, treeRows, trees, localCount, treeOf, localOf, entry, entryAt, localAt}
 use Rattle.rules.specs.Policy.{accepted}
 use Rattle.rules.specs.Lower.{bitAt, bit, held}
-use Rattle.rules.specs.declared.Tree.{Tree}
-use Rattle.ways.specs.State.{State}
 use Rattle.ways.specs.Calls.{atMost, freshTree, freshWord, freshState}
 use Rattle.lower_laws.specs.Sum.{sum-zero}
 use Rattle.lower_laws.specs.Field.{bit-low, bit-high, bit-every, bit-none}
@@ -24,7 +21,7 @@ use Rattle.word_laws.specs.Words.{tree-word, absent-word}
 use Rattle.word_laws.specs.Lists.{length-listed, getD-listed}
 use Rattle.policy_laws.specs.All.{true-false}
 use Rattle.policy_laws.specs.Accepted.{accepted-says}
-use Rattle.hand.specs.Hand.{share, holds, shares, holders, nothing, Kept}
+use Rattle.hand.specs.Hand.{share, holds, shares, holders, Kept}
 use Rattle.moves.specs.Here.{share-none, holds-none}
 
 -- the smaller of two

@@ -1,9 +1,9 @@
 -- The frames of a put go to the given local if it holds their tree, else to the entry: the rules stand. Assumes nothing.
-use mathlib.Core.Path.{_≡_, refl, sym, ap, _∙_, subst}
+use mathlib.Core.Path.{_≡_, refl, ap}
 use mathlib.Core.List.{List}
-use Prim.Native.Nat.{ℕ, zero, suc, _+_, _-_, _*_, _/_, _%_, _^_, _<_, _≤_}
+use Prim.Native.Nat.{ℕ, _-_, _/_, _<_}
 use native.Mathlib.Omega.{arith}
-use Rattle.rules.specs.Words.{Config, treeFrames, treeRows, trees, slot, localAt}
+use Rattle.rules.specs.Words.{Config, treeFrames, trees, slot, localAt}
 use Rattle.rules.specs.declared.Given.{Given}
 use Rattle.rules.specs.declared.Given.the-variants as Given
 use Rattle.rules.specs.declared.Request.{Request}

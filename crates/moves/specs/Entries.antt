@@ -1,22 +1,20 @@
 -- Moves of an entry: frames stolen, put back, all of them synced; a reservation made and returned. Assumes nothing.
-use mathlib.Core.Path.{_≡_, refl, sym, ap, _∙_}
+use mathlib.Core.Path.{_≡_, refl, ap}
 use mathlib.Core.Bool.{Bool, true, false}
-use mathlib.Core.Logic.{_⊎_, inl, inr, ⊎-elim}
 use mathlib.Core.List.{List}
-use Prim.Native.Nat.{ℕ, zero, suc, _+_, _-_, _*_, _/_, _^_, _<_, _≤_}
+use Prim.Native.Nat.{ℕ, _+_, _-_, _<_, _≤_}
 use native.Mathlib.Omega.{arith}
 use lib.Dec.{eqb}
-use lib.ListN.{length, getD, set}
+use lib.ListN.{set}
 use Rattle.rules.specs.Base.{pick, bitOf}
 use Rattle.rules.specs.Words.{Config, treeFrames, trees, treeWord, entry, entryAt}
 use Rattle.rules.specs.Policy.{policy, kindAt, Configured, Good}
 use Rattle.rules.specs.Entries.{ifFull, classAfter, putOf, entryPut}
-use Rattle.rules.specs.declared.Tree.{Tree}
 use Rattle.rules.specs.declared.Kind.{Kind}
 use Rattle.rules.specs.declared.Kind.the-variants.{Invalid, Steal, Demote, Match}
-use Rattle.hand.specs.Hand.{here, shares, holders, Hand}
-use Rattle.word_laws.specs.Sizes.{Size, frames-le}
-use Rattle.word_laws.specs.Words.{bit-true, bit-le, bit-false}
+use Rattle.hand.specs.Hand.{here, holders, Hand}
+use Rattle.word_laws.specs.Sizes.{Size}
+use Rattle.word_laws.specs.Words.{bit-true, bit-le}
 use Rattle.policy_laws.specs.Kinds.{steal-kind, demote-kind, match-kind}
 use Rattle.policy_laws.specs.Accepted.{accepted-says, back-good}
 use Rattle.moves.specs.Here.{here-same, here-zero, here-add, here-part}

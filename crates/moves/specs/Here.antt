@@ -1,16 +1,14 @@
 -- Laws of what is in hand at a tree, and of a local's share of it. Assumes nothing.
-use mathlib.Core.Path.{_≡_, refl, sym, ap, _∙_}
-use mathlib.Core.Bool.{Bool, true, false}
+use mathlib.Core.Path.{_≡_, sym, ap, _∙_}
+use mathlib.Core.Bool.{true, false}
 use mathlib.Core.Logic.{_≢_}
 use mathlib.Core.List.{List}
-use Prim.Native.Nat.{ℕ, zero, suc, _+_, _-_, _*_, _/_, _^_, _<_, _≤_}
+use Prim.Native.Nat.{ℕ, _+_, _-_, _<_, _≤_}
 use native.Mathlib.Omega.{arith}
 use native.Mathlib.Decide.{ℕ-discrete}
-use lib.Dec.{eqb}
-use lib.ListN.{length, getD, set, length-set}
+use lib.ListN.{length, set, length-set}
 use borrow.Author.Tests.{eq-eqb, ne-eqb}
-use Rattle.rules.specs.Base.{pick, sum}
-use Rattle.rules.specs.Words.{treeRows, localOf, localAt}
+use Rattle.rules.specs.Words.{localOf, localAt}
 use Rattle.rules.specs.declared.Local.{Local}
 use Rattle.ways.specs.Standing.{treeOn}
 use Rattle.hand.specs.Hand.{here, share, holds, shares, holders}

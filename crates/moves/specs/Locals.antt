@@ -1,15 +1,14 @@
 -- Moves of a local: frames taken and filled in, another row, a reservation taken out and put in. Assumes nothing.
 use mathlib.Core.Path.{_≡_, refl, sym, ap, _∙_, subst}
-use mathlib.Core.Bool.{Bool, true, false}
+use mathlib.Core.Bool.{true, false}
 use mathlib.Core.List.{List}
-use Prim.Native.Nat.{ℕ, zero, suc, _+_, _-_, _*_, _/_, _^_, _<_, _≤_}
+use Prim.Native.Nat.{ℕ, _+_, _-_, _/_, _^_, _<_, _≤_}
 use native.Mathlib.Omega.{arith}
 use lib.ListN.{length, getD, set}
 use lib.Seq.{getD-set-same}
 use Rattle.rules.specs.Words.{Config, treeFrames, treeRows, trees, localsOf, slot, localOf, localWord, entryAt, localAt}
-use Rattle.rules.specs.Policy.{Configured, Good}
+use Rattle.rules.specs.Policy.{Good}
 use Rattle.rules.specs.Locals.{reservation, localRow}
-use Rattle.rules.specs.declared.Local.{Local}
 use Rattle.ways.specs.Standing.{treeOn}
 use Rattle.hand.specs.Hand.{here, share, holds, Hand}
 use Rattle.word_laws.specs.Sizes.{Size, frames-le}

@@ -1,23 +1,22 @@
 -- The moves between states with something in hand: an entry stored, a local stored, a block held, a block freed. Assumes nothing.
-use mathlib.Core.Path.{_≡_, refl, sym, ap, ap₂, _∙_, subst}
+use mathlib.Core.Path.{_≡_, ap, _∙_, subst}
 use mathlib.Core.Bool.{Bool, true, false}
 use mathlib.Core.Logic.{_≢_}
 use mathlib.Core.List.{List}
-use Prim.Native.Nat.{ℕ, zero, suc, _+_, _-_, _*_, _/_, _^_, _<_, _≤_}
+use Prim.Native.Nat.{ℕ, _+_, _-_, _*_, _^_, _<_, _≤_}
 use native.Mathlib.Omega.{arith}
 use native.Mathlib.Decide.{ℕ-discrete}
 use lib.ListN.{length, getD, set, length-set}
 use lib.Seq.{getD-set-same, getD-set-other}
 use Rattle.rules.specs.Base.{bitOf}
-use Rattle.rules.specs.Words.{Config, treeFrames, treeRows, trees, localsOf, slot, localCount, treeOf, treeWord, localOf, localWord, entry, entryAt, localAt}
+use Rattle.rules.specs.Words.{Config, treeFrames, trees, localsOf, slot, treeOf, treeWord, localOf, entryAt, localAt}
 use Rattle.rules.specs.Policy.{Configured, Good}
 use Rattle.rules.specs.Lower.{held, heldIn, mark}
 use Rattle.rules.specs.declared.Tree.{Tree}
-use Rattle.rules.specs.declared.Local.{Local}
 use Rattle.ways.specs.Standing.{treeOn}
 use Rattle.hand.specs.Hand.{here, share, holds, shares, holders, Hand}
 use Rattle.word_laws.specs.Sizes.{Size, frames-le, next-tree}
-use Rattle.word_laws.specs.Words.{tree-word, present-lt}
+use Rattle.word_laws.specs.Words.{tree-word}
 use Rattle.lower_laws.specs.Cases.{by-side}
 use Rattle.lower_laws.specs.Block.{Block}
 use Rattle.lower_laws.specs.Power.{Inside}

@@ -1,9 +1,8 @@
 -- Laws of the steps of exported calls: the state test, the refusals, the lower's put, the classes of a drain. Assumes nothing.
-use mathlib.Core.Path.{_≡_, refl, sym, ap, _∙_}
+use mathlib.Core.Path.{_≡_, refl}
 use mathlib.Core.Bool.{Bool, true, false}
 use mathlib.Core.List.{List}
-use Prim.Native.Nat.{ℕ, zero, suc, _+_, _-_, _*_, _/_, _%_, _^_, _<_, _≤_}
-use native.Mathlib.Omega.{arith}
+use Prim.Native.Nat.{ℕ, zero, suc, _-_, _/_, _^_, _≤_}
 use Rattle.rules.specs.Base.{Out, out}
 use Rattle.rules.specs.Words.{Config, treeFrames}
 use Rattle.rules.specs.Lower.{heldIn, mark, hasTree, lowerPut}

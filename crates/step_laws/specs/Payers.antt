@@ -1,5 +1,5 @@
 -- Which local pays: a place of a configured class whose kind passes, with enough, and on the named tree. Assumes nothing.
-use mathlib.Core.Path.{_≡_, refl, sym, ap, _∙_}
+use mathlib.Core.Path.{_≡_, refl}
 use mathlib.Core.Bool.{Bool, true, false}
 use mathlib.Core.List.{List}
 use Prim.Native.Nat.{ℕ, zero, suc, _+_, _%_, _<_, _≤_}
@@ -18,8 +18,8 @@ use Rattle.rules.specs.declared.Found.{Found}
 use Rattle.rules.specs.declared.Found.the-variants.{At, Nothing}
 use Rattle.rules.specs.declared.Payer.{Payer}
 use Rattle.rules.specs.declared.Payer.the-variants as Payer
-use Rattle.lower_laws.specs.First.{Sound, first-sound}
-use Rattle.policy_laws.specs.All.{by, both-left, both-right}
+use Rattle.lower_laws.specs.First.{first-sound}
+use Rattle.policy_laws.specs.All.{both-left, both-right}
 use Rattle.policy_laws.specs.Kinds.{configured-fact}
 use Rattle.step_laws.specs.Steps.{ifte-ind}
 

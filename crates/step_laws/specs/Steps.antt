@@ -1,15 +1,15 @@
 -- One law for each step that routes are made of: whatever holds of every way on, holds of the step. Assumes nothing.
-use mathlib.Core.Path.{_≡_, refl, sym, ap, _∙_}
+use mathlib.Core.Path.{_≡_, refl}
 use mathlib.Core.Bool.{Bool, true, false}
 use mathlib.Core.Logic.{_⊎_, inl, inr}
 use mathlib.Core.List.{List}
-use Prim.Native.Nat.{ℕ, zero, suc, _+_, _-_, _*_, _/_, _%_, _^_, _<_, _≤_}
+use Prim.Native.Nat.{ℕ, _+_, _-_, _*_, _/_, _^_, _<_, _≤_}
 use native.Mathlib.Omega.{arith}
 use lib.Dec.{eqb, leb, ltb}
-use lib.ListN.{getD, set}
+use lib.ListN.{set}
 use borrow.Author.Tests.{eqb-true, eqb-false, leb-true, leb-false, ltb-true, ltb-false}
 use Rattle.rules.specs.Base.{pick, ifte, Out, out}
-use Rattle.rules.specs.Words.{Config, treeFrames, treeRows, treeWord, localWord, entry, entryAt, localAt}
+use Rattle.rules.specs.Words.{Config, treeRows, treeWord, localWord, entry, entryAt, localAt}
 use Rattle.rules.specs.Policy.{policy, kindAt, Good}
 use Rattle.rules.specs.Entries.{putOf, stealKind, stealOf, reserveKind, reserveOf, unreserveKind, unreserveOf, syncOf, keepTook, entrySteal, entryUnreserve, keepTaken, entryReserve, keepSync, entrySync}
 use Rattle.rules.specs.Locals.{reservation, inTree, localTake, localPut, localSwap, localClear}
@@ -22,7 +22,7 @@ use Rattle.rules.specs.declared.Took.{Took}
 use Rattle.rules.specs.declared.Took.the-variants as Took
 use Rattle.rules.specs.declared.Taken.the-variants as Taken
 use Rattle.rules.specs.declared.Found.{Found}
-use Rattle.rules.specs.declared.Found.the-variants.{At, Nothing}
+use Rattle.rules.specs.declared.Found.the-variants.{Nothing}
 use Rattle.rules.specs.declared.Name.{Name}
 use Rattle.rules.specs.declared.Request.{Request}
 use Rattle.ways.specs.declared.Got.{Got}

@@ -1,21 +1,21 @@
 -- Laws of the walk, of its list, and of the trial of the list, for any claim. Assumes nothing.
-use mathlib.Core.Path.{_≡_, refl, sym, ap, _∙_}
+use mathlib.Core.Path.{_≡_}
 use mathlib.Core.Bool.{Bool, true, false}
 use mathlib.Core.List.{List, [], _∷_}
-use Prim.Native.Nat.{ℕ, zero, suc, _+_, _-_, _*_, _/_, _%_, _<_, _≤_}
-use native.Mathlib.Nat.{mod-lt, add-zero}
+use Prim.Native.Nat.{ℕ, zero, suc, _+_, _-_, _*_, _/_, _%_, _<_}
+use native.Mathlib.Nat.{mod-lt}
 use native.Mathlib.Omega.{arith}
 use lib.Dec.{eqb, ltb}
 use lib.ListN.{take}
 use borrow.Author.Tests.{eqb-true, eqb-false}
-use Rattle.rules.specs.Base.{pick, bitOf, ifte, Out, out}
+use Rattle.rules.specs.Base.{pick, bitOf, Out, out}
 use Rattle.rules.specs.Words.{Config, entryAt}
 use Rattle.rules.specs.declared.Request.{Request}
 use Rattle.ways.specs.declared.Got.{Got}
 use Rattle.ways.specs.declared.Got.the-variants as Got
 use Rattle.ways.specs.declared.Walk.{Walk}
 use Rattle.ways.specs.State.{State, Way, missed, withLook}
-use Rattle.ways.specs.Walk.{place, best, isFull, rate, Candidate, rated, insert, admit, access, Sight, sight, tried, offered, visit, onSight, walkSteps, walk, tryList, stopped, searchBest}
+use Rattle.ways.specs.Walk.{place, best, isFull, rate, Candidate, rated, insert, admit, access, Sight, sight, tried, offered, visit, onSight, walkSteps, tryList}
 use Rattle.step_laws.specs.Steps.{ifte-ind, else-ind}
 
 -- a walk stays in the trees

@@ -1,7 +1,7 @@
 -- The arithmetic of the tree order z, from 6 to 18: all that is known of products with and quotients by a tree's frames and rows. Assumes nothing.
-use mathlib.Core.Path.{_≡_, refl, sym, ap, ap₂, _∙_, subst}
-use Prim.Native.Nat.{ℕ, zero, suc, _+_, _-_, _*_, _/_, _%_, _^_, _<_, _≤_}
-use native.Mathlib.Nat.{mul-comm, mul-assoc, mul-left-comm, add-mul, suc-mul, mul-le-mul-right, mod-lt, div-add-mod, div-lt-iff-lt-mul, le-div-iff-mul-le, div-mul-le-self}
+use mathlib.Core.Path.{_≡_, ap, _∙_}
+use Prim.Native.Nat.{ℕ, suc, _+_, _-_, _*_, _/_, _^_, _<_, _≤_}
+use native.Mathlib.Nat.{mul-comm, mul-left-comm, suc-mul, mul-le-mul-right, mod-lt, div-add-mod, div-lt-iff-lt-mul, le-div-iff-mul-le, div-mul-le-self}
 use native.Mathlib.Omega.{arith}
 use lib.Pow.{pow-pos, pow-mono, pow-add, shr-shr, shl-shr}
 use Rattle.rules.specs.Words.{treeFrames, treeRows, treeCount}

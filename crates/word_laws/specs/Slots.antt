@@ -1,11 +1,10 @@
 -- The places of locals, by class, then index: each place belongs to exactly one class and index. Assumes nothing.
-use mathlib.Core.Path.{_≡_, refl, sym, ap, _∙_}
-use mathlib.Core.Logic.{_⊎_, inl, inr, ⊎-elim}
+use mathlib.Core.Path.{_≡_, ap}
 use mathlib.Core.List.{List}
 use Prim.Native.Nat.{ℕ, zero, suc, _+_, _-_, _<_, _≤_}
-use native.Mathlib.Nat.{zero-add, not-suc-le-zero, le-dest}
+use native.Mathlib.Nat.{zero-add, not-suc-le-zero}
 use native.Mathlib.Omega.{arith}
-use native.Mathlib.Decide.{decLt, ℕ-discrete}
+use native.Mathlib.Decide.{decLt}
 use Rattle.rules.specs.Base.{sum}
 use Rattle.rules.specs.Words.{localsOf, slot, localCount}
 use Rattle.word_laws.specs.Sums.{sum-prefix}
@@ -71,7 +70,7 @@ module _ (ps : List ℕ) where
       let q : sum (localsOf ps) 0 k ≡ sum (localsOf ps) 0 m = ap (λ (y : ℕ). sum (localsOf ps) 0 y) (slot-class k i m x hi hx e) in
       omega arith
 
-  -- the first index of the next class comes after the last of this one
+  -- the next index is the next place
   pub slot-next : (k i : ℕ) → slot ps k (i + 1) ≡ slot ps k i + 1
   unfolding slot
   slot-next k i = omega arith

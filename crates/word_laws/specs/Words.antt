@@ -1,18 +1,15 @@
 -- Round trips of tree and local words, and the bounds of their fields. Assumes nothing.
-use mathlib.Core.Path.{_≡_, refl, sym, ap, _∙_}
+use mathlib.Core.Path.{_≡_, refl, ap}
 use mathlib.Core.Bool.{Bool, true, false}
 use mathlib.Core.List.{List}
-use Prim.Native.Nat.{ℕ, zero, suc, _+_, _-_, _*_, _/_, _%_, _^_, _<_, _≤_}
+use Prim.Native.Nat.{ℕ, _+_, _-_, _*_, _/_, _%_, _^_, _<_, _≤_}
 use native.Mathlib.Nat.{mod-eq-of-lt}
 use native.Mathlib.Omega.{arith}
 use native.Mathlib.Decide.{decLt}
-use lib.Dec.{eqb}
 use lib.ListN.{length, getD, List·getD-eq-default}
 use Rattle.rules.specs.Base.{bitOf}
 use Rattle.rules.specs.Words.{treeOf, treeWord, localOf, localWord, entry, entryAt, localAt}
 use Rattle.rules.specs.Locals.{reservation}
-use Rattle.rules.specs.declared.Tree.{Tree}
-use Rattle.rules.specs.declared.Local.{Local}
 
 -- a tree word whose fields fit their bits is stored exactly
 pub tree-word : (f : ℕ) (r : Bool) (k : ℕ) → f < 2 ^ 28 → k < 8 → treeOf (treeWord (entry f r k)) ≡ entry f r k
