@@ -44,7 +44,7 @@ pub record GetKeeps (c : Config) (q : Request) (name : Name) (b : List ℕ) (r :
   pub unchanged : r .number ≢ 0 → r .bits ≡ b
 
 -- get, of any request: what a sequence of calls goes by
-pub record GetAny (c : Config) (q : Request) (name : Name) (t l b : List ℕ) (r : Told) : Type 0 where
+pub record GetAny (c : Config) (q : Request) (name : Name) (b : List ℕ) (r : Told) : Type 0 where
   -- the rules stand
   pub kept : Kept c (r .trees) (r .locals) (r .bits)
   -- never Broken, never Stuck
@@ -199,10 +199,10 @@ module _ (c : Config) (t l b : List ℕ) where
         (λ g. true-false S g)
 
     -- get and put of any request
-    pub get-any : (q : Request) (name : Name) → GetAny c q name t l b (get c q name t l b)
+    pub get-any : (q : Request) (name : Name) → GetAny c q name b (get c q name t l b)
     get-any q name = go (refusal c q (frameOf name)) refl
       where
-        go : (n : ℕ) → refusal c q (frameOf name) ≡ n → GetAny c q name t l b (get c q name t l b)
+        go : (n : ℕ) → refusal c q (frameOf name) ≡ n → GetAny c q name b (get c q name t l b)
         go zero e =
             let G = get-keeps q name e in
             record {
@@ -214,7 +214,7 @@ module _ (c : Config) (t l b : List ℕ) where
             }
         go (suc n) e =
             let R = ⊎-elim {C = (1 ≤ n) × (n ≤ 5)} (λ y. absurd (omega (arith, e, y))) (λ y. (omega (arith, e, y .0), omega (arith, e, y .1))) (refusal-range c q (frameOf name)) in
-            subst (GetAny c q name t l b) (sym (get-refused q name n S e))
+            subst (GetAny c q name b) (sym (get-refused q name n S e))
             (record { kept = K; sound = λ x. omega (arith, x, R .0); loose = λ x. omega (arith, x, R .1); granted = λ x. absurd (omega (arith, x)); unchanged = λ _. refl })
 
     pub put-any : (q : Request) (f : ℕ) → PutAny c q f t l b (put c q f t l b)
