@@ -1,0 +1,203 @@
+// The acceptance test of header and policy table, made at each exported call: one walk over the rows of the table.
+use rules::Header;
+ghost use mathlib.Core.Path.{_≡_};
+ghost use Prim.Native.Nat.{ℕ, _+_, _*_, _<_, _≤_};
+ghost use lib.Dec.{eqb};
+ghost use Rattle.rules.specs.Base.{allBelow};
+ghost use Rattle.rules.specs.Words.{config, configured};
+ghost use Rattle.rules.specs.Policy.{pairOf, kindAt, good, pairFormed, implies, accepted};
+ghost use Rattle.policy_laws.specs.Rows.{placeFits, demotesKept, cellAccepted, rowEmpty, rowAccepted};
+
+// A byte as a number.
+fn wide(x: u8) -> usize
+    ensures { λ r. ⌜ r ≡ x ⌝ }
+{
+    x as usize
+}
+
+// A word as a number.
+fn long(x: u32) -> usize
+    ensures { λ r. ⌜ r ≡ x ⌝ }
+{
+    x as usize
+}
+
+// The class has a place.
+fn is_configured(h: Header, k: usize) -> bool
+    requires { ⌜ k < 8 ⌝ }
+    ensures { λ r. ⌜ r ≡ configured (h .places) k ⌝ }
+{
+    0 < wide(h.places[k])
+}
+
+// No class has more than 32 locals.
+fn places_fit(h: Header) -> bool
+    ensures { λ r. ⌜ r ≡ allBelow 8 (placeFits (h .places)) ⌝ }
+{
+    let mut k: usize = 0;
+    while k < 8 {
+        if 33 < wide(h.places[k]) {
+            return false;
+        }
+        k += 1;
+    }
+    true
+}
+
+// The word of the pair (o, e).
+fn pair_at(h: Header, table: &[u32; 64], o: usize, e: usize) -> u32
+    requires { ⌜ (o < 8) × (e < 8) ⌝ }
+    ensures { λ r. ⌜ r ≡ pairOf (config h (now (table .entry))) o e ⌝ }
+{
+    table[o * 8 + e]
+}
+
+// The kind of the pair (o, e).
+fn kind_at(h: Header, table: &[u32; 64], o: usize, e: usize) -> u32
+    requires { ⌜ (o < 8) × (e < 8) ⌝ }
+    ensures { λ r. ⌜ r ≡ kindAt (config h (now (table .entry))) o e ⌝ }
+{
+    pair_at(h, table, o, e) % 4
+}
+
+// A pair's word has its kind's form.
+fn formed(w: u32) -> bool
+    ensures { λ r. ⌜ r ≡ pairFormed 11 w ⌝ }
+{
+    if w % 4 == 3 {
+        return w / 4 % 16384 <= 2048;
+    }
+    w < 4
+}
+
+// If (k, o) is Demote then (k, e) is good.
+fn demote_kept(h: Header, table: &[u32; 64], o: usize, e: usize, k: usize) -> bool
+    requires { ⌜ (o < 8) × ((e < 8) × (k < 8)) ⌝ }
+    ensures { λ r. ⌜ r ≡ implies (eqb (kindAt (config h (now (table .entry))) k o) 2) (good (config h (now (table .entry))) k e) ⌝ }
+{
+    if kind_at(h, table, k, o) == 2 {
+        return 2 <= kind_at(h, table, k, e);
+    }
+    true
+}
+
+// The third rule at the good pair (o, e).
+fn demotes_kept(h: Header, table: &[u32; 64], o: usize, e: usize) -> bool
+    requires { ⌜ (o < 8) × (e < 8) ⌝ }
+    ensures { λ r. ⌜ r ≡ demotesKept (config h (now (table .entry))) o e ⌝ }
+{
+    let mut k: usize = 0;
+    while k < 8 {
+        if !demote_kept(h, table, o, e, k) {
+            return false;
+        }
+        k += 1;
+    }
+    true
+}
+
+// The pair of a configured class o and a class e: its form, and the second and the third rule if it is good.
+fn cell_accepted(h: Header, table: &[u32; 64], o: usize, e: usize) -> bool
+    requires { ⌜ (h .default < 8) × ((o < 8) × (e < 8)) ⌝ }
+    ensures { λ r. ⌜ r ≡ cellAccepted (config h (now (table .entry))) o e ⌝ }
+{
+    if formed(pair_at(h, table, o, e)) {
+        if is_configured(h, e) {
+            if 2 <= kind_at(h, table, o, e) {
+                if 0 < kind_at(h, table, e, h.default) {
+                    if 2 <= kind_at(h, table, o, h.default) {
+                        return demotes_kept(h, table, o, e);
+                    }
+                    return false;
+                }
+                return demotes_kept(h, table, o, e);
+            }
+            return true;
+        }
+        return kind_at(h, table, o, e) == 0;
+    }
+    false
+}
+
+// The eight pairs of a configured class o.
+fn cells_accepted(h: Header, table: &[u32; 64], o: usize) -> bool
+    requires { ⌜ (h .default < 8) × (o < 8) ⌝ }
+    ensures { λ r. ⌜ r ≡ allBelow 8 (cellAccepted (config h (now (table .entry))) o) ⌝ }
+{
+    let mut e: usize = 0;
+    while e < 8 {
+        if !cell_accepted(h, table, o, e) {
+            return false;
+        }
+        e += 1;
+    }
+    true
+}
+
+// The eight pairs of an unconfigured class o are zero.
+fn row_empty(h: Header, table: &[u32; 64], o: usize) -> bool
+    requires { ⌜ o < 8 ⌝ }
+    ensures { λ r. ⌜ r ≡ rowEmpty (config h (now (table .entry))) o ⌝ }
+{
+    let a = long(pair_at(h, table, o, 0))
+        + long(pair_at(h, table, o, 1))
+        + long(pair_at(h, table, o, 2))
+        + long(pair_at(h, table, o, 3));
+    a
+        + long(pair_at(h, table, o, 4))
+        + long(pair_at(h, table, o, 5))
+        + long(pair_at(h, table, o, 6))
+        + long(pair_at(h, table, o, 7))
+        == 0
+}
+
+// The eight pairs of a requested class o.
+fn row_accepted(h: Header, table: &[u32; 64], o: usize) -> bool
+    requires { ⌜ (h .default < 8) × (o < 8) ⌝ }
+    ensures { λ r. ⌜ r ≡ rowAccepted (config h (now (table .entry))) o ⌝ }
+{
+    if is_configured(h, o) {
+        if 2 <= kind_at(h, table, o, o) {
+            return cells_accepted(h, table, o);
+        }
+        return false;
+    }
+    row_empty(h, table, o)
+}
+
+// The table: its form and the three rules.
+fn rows_accepted(h: Header, table: &[u32; 64]) -> bool
+    requires { ⌜ h .default < 8 ⌝ }
+    ensures { λ r. ⌜ r ≡ allBelow 8 (rowAccepted (config h (now (table .entry)))) ⌝ }
+{
+    let mut o: usize = 0;
+    while o < 8 {
+        if !row_accepted(h, table, o) {
+            return false;
+        }
+        o += 1;
+    }
+    true
+}
+
+// Header and policy table as a start accepts them.
+pub fn accepts(h: Header, table: &[u32; 64]) -> bool
+    ensures { λ r. ⌜ r ≡ accepted (config h (now (table .entry))) ⌝ }
+{
+    if h.frames < 1 {
+        return false;
+    }
+    if 2097152 < h.frames {
+        return false;
+    }
+    if places_fit(h) {
+        if h.default < 8 {
+            if is_configured(h, h.default) {
+                return rows_accepted(h, table);
+            }
+            return false;
+        }
+        return false;
+    }
+    false
+}

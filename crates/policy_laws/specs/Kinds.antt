@@ -1,0 +1,171 @@
+-- The policy's answer against the pair's kind, and good pairs and configured classes as tests and as facts. Assumes nothing.
+use mathlib.Core.Path.{_≡_, refl, sym, ap, _∙_}
+use mathlib.Core.Bool.{Bool, true, false}
+use mathlib.Core.List.{List}
+use Prim.Native.Nat.{ℕ, _+_, _*_, _/_, _%_, _^_, _<_, _≤_}
+use native.Mathlib.Omega.{arith}
+use lib.Dec.{eqb, leb, ltb}
+use lib.ListN.{getD}
+use borrow.Author.Tests.{leb-true, leb-false, le-leb, lt-leb, ltb-true, ltb-false, lt-ltb, le-ltb, eq-eqb, ne-eqb, eqb-true, eqb-false}
+use Rattle.rules.specs.Base.{pick}
+use Rattle.rules.specs.Words.{Config, configured}
+use Rattle.rules.specs.Policy.{pairOf, kindOf, cutOf, lowOf, highOf, policyOf, policy, kindAt, good, Configured, Good}
+use Rattle.rules.specs.declared.Kind.{Kind}
+use Rattle.rules.specs.declared.Kind.the-variants.{Invalid, Steal, Demote, Match}
+use Rattle.policy_laws.specs.All.{by}
+
+-- 01's number of a kind: Invalid 0, Steal 1, Demote 2 or Match 3
+abbrev pub kindNumber : Kind → ℕ
+kindNumber Invalid = 0
+kindNumber Steal = 1
+kindNumber Demote = 2
+kindNumber (Match r) = 3
+
+-- there are four kinds
+pub kind-lt : (w : ℕ) → kindOf w < 4
+unfolding kindOf
+kind-lt w = omega arith
+
+-- a word of 32 bits has ratings 0 to 255
+pub high-lt : (w : ℕ) → w < 2 ^ 32 → highOf w < 256
+unfolding highOf
+high-lt w h = omega arith
+
+pub low-lt : (w : ℕ) → lowOf w < 256
+unfolding lowOf
+low-lt w = omega arith
+
+-- the rating of a Match
+unfoldable pub ratingOf : ℕ → ℕ → ℕ
+ratingOf w free = pick (leb (cutOf w) free) (highOf w) (lowOf w)
+
+-- the policy's answer of a word by its kind
+module _ (w free : ℕ) where
+  invalid-of : kindOf w ≡ 0 → policyOf w free ≡ Invalid
+  unfolding policyOf
+  invalid-of h = rw (eq-eqb _ _ h)
+
+  steal-of : kindOf w ≡ 1 → policyOf w free ≡ Steal
+  unfolding policyOf
+  steal-of h = rw h
+
+  demote-of : kindOf w ≡ 2 → policyOf w free ≡ Demote
+  unfolding policyOf
+  demote-of h = rw h
+
+  match-of : kindOf w ≡ 3 → policyOf w free ≡ Match (ratingOf w free)
+  unfolding policyOf ratingOf
+  match-of h = rw h (by (leb (cutOf w) free) (λ e. rw e) (λ e. rw e))
+
+  -- by the four kinds
+  kinds-of : {X : Type 0} → (kindOf w ≡ 0 → X) → (kindOf w ≡ 1 → X) → (kindOf w ≡ 2 → X) → (kindOf w ≡ 3 → X) → X
+  kinds-of f0 f1 f2 f3 =
+      by (eqb (kindOf w) 0) (λ e. f0 (eqb-true _ _ e)) (λ n0.
+      by (eqb (kindOf w) 1) (λ e. f1 (eqb-true _ _ e)) (λ n1.
+      by (eqb (kindOf w) 2) (λ e. f2 (eqb-true _ _ e)) (λ n2.
+      f3 (rest (kindOf w) (kind-lt w) (eqb-false _ _ n0) (eqb-false _ _ n1) (eqb-false _ _ n2)))))
+    where
+      rest : (k : ℕ) → k < 4 → (k ≡ 0 → ⊥) → (k ≡ 1 → ⊥) → (k ≡ 2 → ⊥) → k ≡ 3
+      rest k l a b d = omega arith
+
+  number-of : kindNumber (policyOf w free) ≡ kindOf w
+  number-of = kinds-of
+      (λ h. ap kindNumber (invalid-of h) ∙ sym h)
+      (λ h. ap kindNumber (steal-of h) ∙ sym h)
+      (λ h. ap kindNumber (demote-of h) ∙ sym h)
+      (λ h. ap kindNumber (match-of h) ∙ sym h)
+
+module _ (c : Config) (o e : ℕ) where
+  -- by the pair's four kinds
+  pub kind-cases : {X : Type 0} → (kindAt c o e ≡ 0 → X) → (kindAt c o e ≡ 1 → X) → (kindAt c o e ≡ 2 → X) → (kindAt c o e ≡ 3 → X) → X
+  unfolding kindAt
+  kind-cases = kinds-of (pairOf c o e) 0
+
+  pub kindAt-lt : kindAt c o e < 4
+  unfolding kindAt
+  kindAt-lt = kind-lt (pairOf c o e)
+
+  -- the kind does not depend on the free argument: the answer's number is the kind
+  pub policy-number : (free : ℕ) → kindNumber (policy c o e free) ≡ kindAt c o e
+  unfolding policy kindAt
+  policy-number free = number-of (pairOf c o e) free
+
+  -- Invalid exactly if the kind is 0
+  pub policy-invalid : (free : ℕ) → kindAt c o e ≡ 0 → policy c o e free ≡ Invalid
+  unfolding policy kindAt
+  policy-invalid free = invalid-of (pairOf c o e) free
+
+  pub invalid-kind : (free : ℕ) → policy c o e free ≡ Invalid → kindAt c o e ≡ 0
+  invalid-kind free h = sym (policy-number free) ∙ ap kindNumber h
+
+  -- Steal exactly if the kind is 1
+  pub policy-steal : (free : ℕ) → kindAt c o e ≡ 1 → policy c o e free ≡ Steal
+  unfolding policy kindAt
+  policy-steal free = steal-of (pairOf c o e) free
+
+  pub steal-kind : (free : ℕ) → policy c o e free ≡ Steal → kindAt c o e ≡ 1
+  steal-kind free h = sym (policy-number free) ∙ ap kindNumber h
+
+  -- Demote exactly if the kind is 2
+  pub policy-demote : (free : ℕ) → kindAt c o e ≡ 2 → policy c o e free ≡ Demote
+  unfolding policy kindAt
+  policy-demote free = demote-of (pairOf c o e) free
+
+  pub demote-kind : (free : ℕ) → policy c o e free ≡ Demote → kindAt c o e ≡ 2
+  demote-kind free h = sym (policy-number free) ∙ ap kindNumber h
+
+  -- Match, with the rating at the free argument, exactly if the kind is 3
+  pub policy-match : (free : ℕ) → kindAt c o e ≡ 3 → policy c o e free ≡ Match (ratingOf (pairOf c o e) free)
+  unfolding policy kindAt
+  policy-match free = match-of (pairOf c o e) free
+
+  pub match-kind : (free r : ℕ) → policy c o e free ≡ Match r → kindAt c o e ≡ 3
+  match-kind free r h = sym (policy-number free) ∙ ap kindNumber h
+
+  -- by the policy's four answers
+  pub policy-cases : {X : Type 0} (free : ℕ) → (kindAt c o e ≡ 0 → policy c o e free ≡ Invalid → X) → (kindAt c o e ≡ 1 → policy c o e free ≡ Steal → X)
+      → (kindAt c o e ≡ 2 → policy c o e free ≡ Demote → X) → ((r : ℕ) → kindAt c o e ≡ 3 → policy c o e free ≡ Match r → X) → X
+  policy-cases free f0 f1 f2 f3 = kind-cases (λ h. f0 h (policy-invalid free h)) (λ h. f1 h (policy-steal free h))
+      (λ h. f2 h (policy-demote free h)) (λ h. f3 _ h (policy-match free h))
+
+  -- good as a test and as a fact
+  pub good-true : Good c o e → good c o e ≡ true
+  unfolding good
+  good-true h = le-leb _ _ h
+
+  pub good-fact : good c o e ≡ true → Good c o e
+  unfolding good
+  good-fact h = leb-true _ _ h
+
+  pub bad-false : kindAt c o e < 2 → good c o e ≡ false
+  unfolding good
+  bad-false h = lt-leb _ _ h
+
+  pub bad-fact : good c o e ≡ false → kindAt c o e < 2
+  unfolding good
+  bad-fact h = leb-false _ _ h
+
+  -- Demote and Match are good
+  pub demote-good : kindAt c o e ≡ 2 → Good c o e
+  demote-good h = omega arith
+
+  pub match-good : kindAt c o e ≡ 3 → Good c o e
+  match-good h = omega arith
+
+-- configured as a test and as a fact
+module _ (c : Config) (k : ℕ) where
+  pub configured-true : Configured c k → configured (c .places) k ≡ true
+  unfolding configured
+  configured-true h = lt-ltb _ _ (h .1)
+
+  pub configured-fact : k < 8 → configured (c .places) k ≡ true → Configured c k
+  unfolding configured
+  configured-fact l h = (l, ltb-true _ _ h)
+
+  pub configured-false : (Configured c k → ⊥) → k < 8 → configured (c .places) k ≡ false
+  unfolding configured
+  configured-false h l = by (ltb 0 (getD (c .places) k 0)) (λ e. absurd (h (l, ltb-true _ _ e))) (λ e. e)
+
+  pub unconfigured-fact : configured (c .places) k ≡ false → Configured c k → ⊥
+  unfolding configured
+  unconfigured-fact h g = let a : getD (c .places) k 0 ≤ 0 = ltb-false _ _ h in omega (arith, g .1)

@@ -1,0 +1,5 @@
+-- laws of computed tests, and of the policy table
+pub mod All
+pub mod Kinds
+pub mod Accepted
+pub mod Rows
