@@ -65,7 +65,7 @@ pub enum Took {
 pub enum Taken {
     No,
     Part(Tree),
-    Whole(Tree, usize),
+    Whole(Tree, u32),
 }
 
 // What a sync answers: the frames of the entry, or nothing.

@@ -160,7 +160,7 @@ pub fn steal(h: Header, table: &[u32; 64], t: Tree, class: usize, n: usize) -> T
 
 // Reserve or steal: the entry that is left; with the whole of it, the frames that it had.
 pub fn reserve_or_steal(h: Header, table: &[u32; 64], t: Tree, class: usize, n: usize) -> Taken
-    requires { ⌜ (class < 8) × (t .class < 8) ⌝ }
+    requires { ⌜ (class < 8) × ((t .class < 8) × (t .free < 2 ^ 32)) ⌝ }
     ensures { λ r. ⌜ r ≡ reserveOf (config h (now (table .entry))) t class n ⌝ }
 {
     if t.reserved {
@@ -182,7 +182,7 @@ pub fn reserve_or_steal(h: Header, table: &[u32; 64], t: Tree, class: usize, n: 
                 reserved: true,
                 class: class,
             },
-            t.free,
+            t.free as u32,
         ),
         Kind::Match(_) => Taken::Whole(
             Tree {
@@ -190,7 +190,7 @@ pub fn reserve_or_steal(h: Header, table: &[u32; 64], t: Tree, class: usize, n: 
                 reserved: true,
                 class: class,
             },
-            t.free,
+            t.free as u32,
         ),
     }
 }
