@@ -1,3 +1,6 @@
+use Rattle.rules.specs.Base.{ifte}
+use Rattle.ways.specs.State.{askLower, onTook, onTaken, onFound, onSwap, done, missed, missedAt, stuck, putEntry, unreserve, unreserveLocal, withTrees, withLocals, withTry}
+use Rattle.ways.specs.Walk.{stealGlobal, reserved, reserveOrSteal, access}
 use borrow.Author.Needs.{needs}
 use Rattle.steal.proofs.ask_lower.Statement.{statement}
 use Rattle.steal.proofs.ask_lower.Tie as tie
@@ -45,7 +48,10 @@ same-length c = search needs
 
 -- src/lib.rt:20:1
 returns : tie.Need-returns
-returns c = ?
+unfolding askLower stealGlobal reserved reserveOrSteal access onTook onTaken onFound onSwap done missed missedAt stuck putEntry unreserve unreserveLocal withTrees withLocals withTry ifte
+returns c =
+    (rw (← c .before .before .before .before .before .lower-get .ensures,
+    c .before .f .given .1), (search needs, search needs))
 
 -- src/lib.rt:20:1
 same-length-2 : tie.Need-same-length-2
@@ -57,7 +63,12 @@ same-length-3 c = search needs
 
 -- src/lib.rt:20:1
 returns-2 : tie.Need-returns-2
-returns-2 c = ?
+unfolding askLower stealGlobal reserved reserveOrSteal access onTook onTaken onFound onSwap done missed missedAt stuck putEntry unreserve unreserveLocal withTrees withLocals withTry ifte
+returns-2 c =
+    (rw (← c .before .before .before .before .before .before .before .before .before .lower-get .ensures,
+    c .before .before .before .before .before .enum-told .given .1,
+    ← c .before .before .before .frames .ensures,
+    ← c .before .before .put .ensures), (search needs, search needs))
 
 pub ask-lower-spec : {M : Type 1} → statement M
 ask-lower-spec =

@@ -1,3 +1,5 @@
+use Rattle.ways.specs.State.{onTaken, missed, withTrees}
+use Rattle.ways.specs.Walk.{reserveOrSteal}
 use borrow.Author.Needs.{needs}
 use Rattle.steal.proofs.reserve_or_steal.Statement.{statement}
 use Rattle.steal.proofs.reserve_or_steal.Tie as tie
@@ -50,7 +52,11 @@ same-length c = search needs
 
 -- src/lib.rt:205:1
 returns : tie.Need-returns
-returns c = ?
+unfolding reserveOrSteal onTaken missed withTrees
+returns c =
+    (rw (← c .before .before .before .before .before .frames .ensures,
+    ← c .before .before .before .before .reserve-or-steal .ensures,
+    c .enum-told .given .1), (search needs, search needs))
 
 -- src/lib.rt:205:1
 same-length-2 : tie.Need-same-length-2
@@ -66,7 +72,12 @@ same-length-4 c = search needs
 
 -- src/lib.rt:205:1
 returns-2 : tie.Need-returns-2
-returns-2 c = ?
+unfolding reserveOrSteal onTaken missed withTrees
+returns-2 c =
+    (rw (← c .before .before .before .before .before .before .before .before .before .before .before .before .before .before .before .before .frames .ensures,
+    ← c .before .before .before .before .before .before .before .before .before .before .before .before .before .before .before .reserve-or-steal .ensures,
+    c .before .before .before .before .before .before .before .before .before .before .before .e .given .1,
+    ← c .before .before .before .before .before .before .ask-lower .ensures .0), (search needs, search needs))
 
 -- src/lib.rt:205:1
 same-length-5 : tie.Need-same-length-5
@@ -82,7 +93,12 @@ same-length-7 c = search needs
 
 -- src/lib.rt:205:1
 returns-3 : tie.Need-returns-3
-returns-3 c = ?
+unfolding reserveOrSteal onTaken missed withTrees
+returns-3 c =
+    (rw (← c .before .before .before .before .before .before .before .before .before .before .before .before .before .before .before .before .frames .ensures,
+    ← c .before .before .before .before .before .before .before .before .before .before .before .before .before .before .before .reserve-or-steal .ensures,
+    c .before .before .before .before .before .before .before .before .before .before .before .e2 .given .1,
+    ← c .before .before .before .before .before .before .reserved .ensures .0), (search needs, search needs))
 
 pub reserve-or-steal-spec : {M : Type 1} → statement M
 reserve-or-steal-spec =

@@ -1,3 +1,5 @@
+use Rattle.ways.specs.State.{onTook, missed, withTrees}
+use Rattle.ways.specs.Walk.{stealGlobal}
 use borrow.Author.Needs.{needs}
 use Rattle.steal.proofs.steal_global.Statement.{statement}
 use Rattle.steal.proofs.steal_global.Tie as tie
@@ -41,7 +43,11 @@ same-length c = search needs
 
 -- src/lib.rt:60:1
 returns : tie.Need-returns
-returns c = ?
+unfolding stealGlobal onTook missed withTrees
+returns c =
+    (rw (← c .before .before .before .before .before .frames .ensures,
+    ← c .before .before .before .before .steal .ensures,
+    c .enum-told .given .1), (search needs, search needs))
 
 -- src/lib.rt:60:1
 same-length-2 : tie.Need-same-length-2
@@ -57,7 +63,12 @@ same-length-4 c = search needs
 
 -- src/lib.rt:60:1
 returns-2 : tie.Need-returns-2
-returns-2 c = ?
+unfolding stealGlobal onTook missed withTrees
+returns-2 c =
+    (rw (← c .before .before .before .before .before .before .before .before .before .before .before .before .before .before .before .before .frames .ensures,
+    ← c .before .before .before .before .before .before .before .before .before .before .before .before .before .before .before .steal .ensures,
+    c .before .before .before .before .before .before .before .before .before .before .before .e .given .1,
+    ← c .before .before .before .before .before .before .ask-lower .ensures .0), (search needs, search needs))
 
 pub steal-global-spec : {M : Type 1} → statement M
 steal-global-spec =
