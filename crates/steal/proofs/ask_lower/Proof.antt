@@ -6,7 +6,7 @@ use Rattle.steal.proofs.ask_lower.Statement.{statement}
 use Rattle.steal.proofs.ask_lower.Tie as tie
 use Rattle.steal.proofs.ask_lower.Reads as reads
 use Rattle.steal.proofs.ask_lower.Lts as lts
-use Rattle.lower.proofs.frames.Reads as frames-reads
+use Rattle.bits.proofs.frames.Reads as frames-reads
 use Rattle.lower.proofs.lower_get.Reads as lower-get-reads
 use Rattle.trees.proofs.put.Reads as put-reads
 

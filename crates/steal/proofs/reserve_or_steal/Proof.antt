@@ -5,7 +5,7 @@ use Rattle.steal.proofs.reserve_or_steal.Statement.{statement}
 use Rattle.steal.proofs.reserve_or_steal.Tie as tie
 use Rattle.steal.proofs.reserve_or_steal.Reads as reads
 use Rattle.steal.proofs.reserve_or_steal.Lts as lts
-use Rattle.lower.proofs.frames.Reads as frames-reads
+use Rattle.bits.proofs.frames.Reads as frames-reads
 use Rattle.steal.proofs.ask_lower.Reads as ask-lower-reads
 use Rattle.steal.proofs.reserved.Reads as reserved-reads
 use Rattle.trees.proofs.reserve_or_steal.Reads as reserve-or-steal-reads

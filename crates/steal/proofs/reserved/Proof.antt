@@ -7,7 +7,7 @@ use Rattle.steal.proofs.reserved.Tie as tie
 use Rattle.steal.proofs.reserved.Reads as reads
 use Rattle.steal.proofs.reserved.Lts as lts
 use Rattle.local.proofs.swap.Reads as swap-reads
-use Rattle.lower.proofs.frames.Reads as frames-reads
+use Rattle.bits.proofs.frames.Reads as frames-reads
 use Rattle.lower.proofs.lower_get.Reads as lower-get-reads
 use Rattle.steal.proofs.less.Reads as less-reads
 use Rattle.steal.proofs.unreserve_local.Reads as unreserve-local-reads

@@ -5,7 +5,7 @@ use Rattle.steal.proofs.steal_global.Statement.{statement}
 use Rattle.steal.proofs.steal_global.Tie as tie
 use Rattle.steal.proofs.steal_global.Reads as reads
 use Rattle.steal.proofs.steal_global.Lts as lts
-use Rattle.lower.proofs.frames.Reads as frames-reads
+use Rattle.bits.proofs.frames.Reads as frames-reads
 use Rattle.steal.proofs.ask_lower.Reads as ask-lower-reads
 use Rattle.trees.proofs.steal.Reads as steal-reads
 

@@ -17,7 +17,7 @@ use Rattle.take.proofs.+get_local+top_up.Lts-top_up as top-up-lts
 use Rattle.local.proofs.put.Reads as put-reads
 use Rattle.local.proofs.set_start.Reads as set-start-reads
 use Rattle.local.proofs.take.Reads as take-reads
-use Rattle.lower.proofs.frames.Reads as frames-reads
+use Rattle.bits.proofs.frames.Reads as frames-reads
 use Rattle.lower.proofs.lower_get.Reads as lower-get-reads
 use Rattle.trees.proofs.put.Reads as put-reads′
 use Rattle.trees.proofs.sync.Reads as sync-reads
