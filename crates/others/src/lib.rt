@@ -42,8 +42,8 @@ fn pay_from(
 ) -> Routed
     requires { ⌜ Fits h q × ((looks < 2 ^ 32) × (tries < 2 ^ 32)) ⌝ }
     ensures { λ r. ⌜ (ended r (now (trees .exit)) (now (locals .exit)) (now (bits .exit))
-      ≡ payFrom (config h (now (table .entry))) q name payer (st (now (trees .entry)) (now (locals .entry)) (now (bits .entry)) looks tries))
-      × ((r .looks ≤ looks) × (r .tries ≤ tries + 1)) ⌝ }
+        ≡ payFrom (config h (now (table .entry))) q name payer (st (now (trees .entry)) (now (locals .entry)) (now (bits .entry)) looks tries))
+        × ((r .looks ≤ looks) × (r .tries ≤ tries + 1)) ⌝ }
 {
     match payer {
         Payer::Nobody => Routed {
@@ -96,8 +96,8 @@ pub fn steal_local(
 ) -> Routed
     requires { ⌜ Fits h q × ((looks < 2 ^ 32) × (tries < 2 ^ 32)) ⌝ }
     ensures { λ r. ⌜ (ended r (now (trees .exit)) (now (locals .exit)) (now (bits .exit))
-      ≡ stealLocal (config h (now (table .entry))) q name (st (now (trees .entry)) (now (locals .entry)) (now (bits .entry)) looks tries))
-      × ((r .looks ≤ looks) × (r .tries ≤ tries + 1)) ⌝ }
+        ≡ stealLocal (config h (now (table .entry))) q name (st (now (trees .entry)) (now (locals .entry)) (now (bits .entry)) looks tries))
+        × ((r .looks ≤ looks) × (r .tries ≤ tries + 1)) ⌝ }
 {
     let local = q.local;
     let payer = local::steal_any(
@@ -128,27 +128,66 @@ fn demote_to(
 ) -> Routed
     requires { ⌜ Fits h q × ((indexOf local < 2 ^ 32) × ((l .free < 2 ^ 32) × ((looks < 2 ^ 32) × (tries < 2 ^ 32)))) ⌝ }
     ensures { λ r. ⌜ (ended r (now (trees .exit)) (now (locals .exit)) (now (bits .exit))
-      ≡ demoteTo (config h (now (table .entry))) q name l local (st (now (trees .entry)) (now (locals .entry)) (now (bits .entry)) looks tries))
-      × ((r .looks ≤ looks) × (r .tries ≤ tries + 1)) ⌝ }
+        ≡ demoteTo (config h (now (table .entry))) q name l local (st (now (trees .entry)) (now (locals .entry)) (now (bits .entry)) looks tries))
+        × ((r .looks ≤ looks) × (r .tries ≤ tries + 1)) ⌝ }
 {
     match local {
         Given::Local(i) => {
             let old = local::swap(locals, words::slot(h, q.class, i), l);
             if old.present {
                 match trees::unreserve(h, table, trees, old.row / 32, q.class, old.free) {
-                    Took::Yes(_) => steal::ask_lower(h, table, trees, locals, bits, q, name, l.row / 32, l.row, q.class, looks, tries),
+                    Took::Yes(_) => steal::ask_lower(
+                        h,
+                        table,
+                        trees,
+                        locals,
+                        bits,
+                        q,
+                        name,
+                        l.row / 32,
+                        l.row,
+                        q.class,
+                        looks,
+                        tries,
+                    ),
                     Took::No => Routed {
-                got: Got::Stuck,
-                looks: looks,
-                tries: tries,
-            },
+                        got: Got::Stuck,
+                        looks: looks,
+                        tries: tries,
+                    },
                 }
             } else {
-                steal::ask_lower(h, table, trees, locals, bits, q, name, l.row / 32, l.row, q.class, looks, tries)
+                steal::ask_lower(
+                    h,
+                    table,
+                    trees,
+                    locals,
+                    bits,
+                    q,
+                    name,
+                    l.row / 32,
+                    l.row,
+                    q.class,
+                    looks,
+                    tries,
+                )
             }
         }
         Given::Nothing => match trees::unreserve(h, table, trees, l.row / 32, q.class, l.free) {
-            Took::Yes(_) => steal::ask_lower(h, table, trees, locals, bits, q, name, l.row / 32, l.row, q.class, looks, tries),
+            Took::Yes(_) => steal::ask_lower(
+                h,
+                table,
+                trees,
+                locals,
+                bits,
+                q,
+                name,
+                l.row / 32,
+                l.row,
+                q.class,
+                looks,
+                tries,
+            ),
             Took::No => Routed {
                 got: Got::Stuck,
                 looks: looks,
@@ -173,32 +212,44 @@ fn move_from(
 ) -> Routed
     requires { ⌜ Fits h q × ((looks < 2 ^ 32) × (tries < 2 ^ 32)) ⌝ }
     ensures { λ r. ⌜ (ended r (now (trees .exit)) (now (locals .exit)) (now (bits .exit))
-      ≡ moveFrom (config h (now (table .entry))) q name payer (st (now (trees .entry)) (now (locals .entry)) (now (bits .entry)) looks tries))
-      × ((r .looks ≤ looks) × (r .tries ≤ tries + 1)) ⌝ }
+        ≡ moveFrom (config h (now (table .entry))) q name payer (st (now (trees .entry)) (now (locals .entry)) (now (bits .entry)) looks tries))
+        × ((r .looks ≤ looks) × (r .tries ≤ tries + 1)) ⌝ }
 {
     match payer {
         Payer::Nobody => Routed {
-                got: Got::Missed,
-                looks: looks,
-                tries: tries,
-            },
+            got: Got::Missed,
+            looks: looks,
+            tries: tries,
+        },
         Payer::Local { class: _, slot } => {
             match local::take(locals, slot, name, bits::frames(q.order) as usize) {
                 Held::Row(_) => {
                     let l = local::clear(locals, slot);
                     let local = q.local;
-                    demote_to(h, table, trees, locals, bits, q, name, l, local, looks, tries)
+                    demote_to(
+                        h,
+                        table,
+                        trees,
+                        locals,
+                        bits,
+                        q,
+                        name,
+                        l,
+                        local,
+                        looks,
+                        tries,
+                    )
                 }
                 Held::Few { row: _, free: _ } => Routed {
-                got: Got::Missed,
-                looks: looks,
-                tries: tries,
-            },
+                    got: Got::Missed,
+                    looks: looks,
+                    tries: tries,
+                },
                 Held::Absent => Routed {
-                got: Got::Missed,
-                looks: looks,
-                tries: tries,
-            },
+                    got: Got::Missed,
+                    looks: looks,
+                    tries: tries,
+                },
             }
         }
     }
@@ -218,11 +269,19 @@ pub fn demote_local(
 ) -> Routed
     requires { ⌜ Fits h q × ((looks < 2 ^ 32) × (tries < 2 ^ 32)) ⌝ }
     ensures { λ r. ⌜ (ended r (now (trees .exit)) (now (locals .exit)) (now (bits .exit))
-      ≡ demoteLocal (config h (now (table .entry))) q name (st (now (trees .entry)) (now (locals .entry)) (now (bits .entry)) looks tries))
-      × ((r .looks ≤ looks) × (r .tries ≤ tries + 1)) ⌝ }
+        ≡ demoteLocal (config h (now (table .entry))) q name (st (now (trees .entry)) (now (locals .entry)) (now (bits .entry)) looks tries))
+        × ((r .looks ≤ looks) × (r .tries ≤ tries + 1)) ⌝ }
 {
     let local = q.local;
-    let payer = local::demote_any(h, table, locals, q.class, index_of(local), name, bits::frames(q.order) as usize);
+    let payer = local::demote_any(
+        h,
+        table,
+        locals,
+        q.class,
+        index_of(local),
+        name,
+        bits::frames(q.order) as usize,
+    );
     move_from(h, table, trees, locals, bits, q, name, payer, looks, tries)
 }
 
@@ -238,10 +297,10 @@ pub fn last_routes(
     looks: usize,
     tries: usize,
 ) -> Routed
-    requires { ⌜ Fits h q × ((looks < 2 ^ 32) × (tries < 2 ^ 32)) ⌝ }
+    requires { ⌜ Fits h q × ((looks < 2 ^ 31) × (tries < 2 ^ 31)) ⌝ }
     ensures { λ r. ⌜ (ended r (now (trees .exit)) (now (locals .exit)) (now (bits .exit))
-      ≡ lastRoutes (config h (now (table .entry))) q name (st (now (trees .entry)) (now (locals .entry)) (now (bits .entry)) looks tries))
-      × ((r .looks ≤ looks) × (r .tries ≤ tries + 2)) ⌝ }
+        ≡ lastRoutes (config h (now (table .entry))) q name (st (now (trees .entry)) (now (locals .entry)) (now (bits .entry)) looks tries))
+        × ((r .looks ≤ looks) × (r .tries ≤ tries + 2)) ⌝ }
 {
     let r = steal_local(h, table, trees, locals, bits, q, name, looks, tries);
     let got = r.got;

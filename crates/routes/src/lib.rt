@@ -26,18 +26,39 @@ fn after_own(
     looks: usize,
     tries: usize,
 ) -> Routed
-    requires { ⌜ Fits h q × ((looks < 2 ^ 31) × (tries < 2 ^ 31)) ⌝ }
+    requires { ⌜ Fits h q × ((looks < 2 ^ 30) × (tries < 2 ^ 30)) ⌝ }
     ensures { λ r. ⌜ (ended r (now (trees .exit)) (now (locals .exit)) (now (bits .exit))
-      ≡ orElse (stealGlobal (config h (now (table .entry))) q (Frame f) (f / 2048) (st (now (trees .entry)) (now (locals .entry)) (now (bits .entry)) looks tries))
-      (lastRoutes (config h (now (table .entry))) q (Frame f)))
-      × ((r .looks ≤ looks) × (r .tries ≤ tries + 3)) ⌝ }
+        ≡ orElse (stealGlobal (config h (now (table .entry))) q (Frame f) (f / 2048) (st (now (trees .entry)) (now (locals .entry)) (now (bits .entry)) looks tries))
+        (lastRoutes (config h (now (table .entry))) q (Frame f)))
+        × ((r .looks ≤ looks) × (r .tries ≤ tries + 3)) ⌝ }
 {
     let name = Name::Frame(f);
-    let r = steal::steal_global(h, table, trees, locals, bits, q, name, f / 2048, looks, tries);
+    let r = steal::steal_global(
+        h,
+        table,
+        trees,
+        locals,
+        bits,
+        q,
+        name,
+        f / 2048,
+        looks,
+        tries,
+    );
     let got = r.got;
     match got {
         Got::Done { frame: _, class: _ } => r,
-        Got::Missed => others::last_routes(h, table, trees, locals, bits, q, name, r.looks, r.tries),
+        Got::Missed => others::last_routes(
+            h,
+            table,
+            trees,
+            locals,
+            bits,
+            q,
+            name,
+            r.looks,
+            r.tries,
+        ),
         Got::MissedAt(_) => {
             others::last_routes(h, table, trees, locals, bits, q, name, r.looks, r.tries)
         }
@@ -59,11 +80,22 @@ fn get_at(
 ) -> Routed
     requires { ⌜ Fits h q × ((looks < 2 ^ 30) × (tries < 2 ^ 30)) ⌝ }
     ensures { λ r. ⌜ (ended r (now (trees .exit)) (now (locals .exit)) (now (bits .exit))
-      ≡ getAt (config h (now (table .entry))) q f (st (now (trees .entry)) (now (locals .entry)) (now (bits .entry)) looks tries))
-      × ((r .looks ≤ looks) × (r .tries ≤ tries + 4)) ⌝ }
+        ≡ getAt (config h (now (table .entry))) q f (st (now (trees .entry)) (now (locals .entry)) (now (bits .entry)) looks tries))
+        × ((r .looks ≤ looks) × (r .tries ≤ tries + 4)) ⌝ }
 {
     let local = q.local;
-    let r = take::own_local(h, table, trees, locals, bits, q, Name::Frame(f), local, looks, tries);
+    let r = take::own_local(
+        h,
+        table,
+        trees,
+        locals,
+        bits,
+        q,
+        Name::Frame(f),
+        local,
+        looks,
+        tries,
+    );
     let got = r.got;
     match got {
         Got::Done { frame: _, class: _ } => r,
@@ -105,10 +137,22 @@ fn get_reserving(
 ) -> Routed
     requires { ⌜ Fits h q × ((start < 2 ^ 44) × ((looks < 2 ^ 30) × (tries < 2 ^ 30))) ⌝ }
     ensures { λ r. ⌜ (ended r (now (trees .exit)) (now (locals .exit)) (now (bits .exit))
-      ≡ getReserving (config h (now (table .entry))) q j start (st (now (trees .entry)) (now (locals .entry)) (now (bits .entry)) looks tries))
-      × ((r .looks ≤ looks + 4096) × (r .tries ≤ tries + 8193)) ⌝ }
+        ≡ getReserving (config h (now (table .entry))) q j start (st (now (trees .entry)) (now (locals .entry)) (now (bits .entry)) looks tries))
+        × ((r .looks ≤ looks + 4096) × (r .tries ≤ tries + 8193)) ⌝ }
 {
-    let r = take::get_local(h, table, trees, locals, bits, q, Name::Any, j, 1, looks, tries);
+    let r = take::get_local(
+        h,
+        table,
+        trees,
+        locals,
+        bits,
+        q,
+        Name::Any,
+        j,
+        1,
+        looks,
+        tries,
+    );
     let got = r.got;
     match got {
         Got::Done { frame: _, class: _ } => r,
@@ -136,8 +180,8 @@ fn search_trees(
 ) -> Routed
     requires { ⌜ Fits h q × ((indexOf local < 2 ^ 32) × ((looks < 2 ^ 30) × (tries < 2 ^ 30))) ⌝ }
     ensures { λ r. ⌜ (ended r (now (trees .exit)) (now (locals .exit)) (now (bits .exit))
-      ≡ searchTrees (config h (now (table .entry))) q local (st (now (trees .entry)) (now (locals .entry)) (now (bits .entry)) looks tries))
-      × ((r .looks ≤ looks + 4096) × (r .tries ≤ tries + 8193)) ⌝ }
+        ≡ searchTrees (config h (now (table .entry))) q local (st (now (trees .entry)) (now (locals .entry)) (now (bits .entry)) looks tries))
+        × ((r .looks ≤ looks + 4096) × (r .tries ≤ tries + 8193)) ⌝ }
 {
     let start = start_tree(h, table, q, local);
     match local {
@@ -167,8 +211,8 @@ fn get_any(
 ) -> Routed
     requires { ⌜ Fits h q × ((looks < 2 ^ 30) × (tries < 2 ^ 30)) ⌝ }
     ensures { λ r. ⌜ (ended r (now (trees .exit)) (now (locals .exit)) (now (bits .exit))
-      ≡ getAny (config h (now (table .entry))) q (st (now (trees .entry)) (now (locals .entry)) (now (bits .entry)) looks tries))
-      × ((r .looks ≤ looks + 4096) × (r .tries ≤ tries + 8195)) ⌝ }
+        ≡ getAny (config h (now (table .entry))) q (st (now (trees .entry)) (now (locals .entry)) (now (bits .entry)) looks tries))
+        × ((r .looks ≤ looks + 4096) × (r .tries ≤ tries + 8195)) ⌝ }
 {
     let local = q.local;
     let name = Name::Any;
@@ -176,7 +220,17 @@ fn get_any(
     let got = r.got;
     match got {
         Got::Done { frame: _, class: _ } => r,
-        Got::Missed => others::last_routes(h, table, trees, locals, bits, q, name, r.looks, r.tries),
+        Got::Missed => others::last_routes(
+            h,
+            table,
+            trees,
+            locals,
+            bits,
+            q,
+            name,
+            r.looks,
+            r.tries,
+        ),
         Got::MissedAt(_) => {
             others::last_routes(h, table, trees, locals, bits, q, name, r.looks, r.tries)
         }
@@ -196,7 +250,7 @@ pub fn routes(
 ) -> Routed
     requires { ⌜ Fits h q ⌝ }
     ensures { λ r. ⌜ ended r (now (trees .exit)) (now (locals .exit)) (now (bits .exit))
-      ≡ routes (config h (now (table .entry))) q name (st (now (trees .entry)) (now (locals .entry)) (now (bits .entry)) 0 0) ⌝ }
+        ≡ routes (config h (now (table .entry))) q name (st (now (trees .entry)) (now (locals .entry)) (now (bits .entry)) 0 0) ⌝ }
 {
     match name {
         Name::Any => get_any(h, table, trees, locals, bits, q, 0, 0),

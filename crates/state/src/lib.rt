@@ -9,7 +9,13 @@ ghost use Rattle.rules.specs.Words.{config, treeCount, localCount};
 ghost use Rattle.ways.specs.Standing.{lengthsExact, entryStands, holderStands, localStands, classStands, apart, apartBefore, reservedCount, presentCount, pastHeld, standing};
 
 // Lent lengths are exact: n tree words, one local word per local, 32n bitmap words.
-pub fn lengths_exact(h: Header, table: &[u32; 64], trees: &[u32], locals: &[u64], bits: &[u64]) -> bool
+pub fn lengths_exact(
+    h: Header,
+    table: &[u32; 64],
+    trees: &[u32],
+    locals: &[u64],
+    bits: &[u64],
+) -> bool
     requires { ⌜ h .frames ≤ 2 ^ 21 ⌝ }
     ensures { λ r. ⌜ r ≡ lengthsExact (config h (now (table .entry))) (now (trees .entry)) (now (locals .entry)) (now (bits .entry)) ⌝ }
 {

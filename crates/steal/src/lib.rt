@@ -33,8 +33,8 @@ pub fn ask_lower(
 ) -> Routed
     requires { ⌜ Fits h q × ((looks < 2 ^ 32) × (tries < 2 ^ 32)) ⌝ }
     ensures { λ r. ⌜ (ended r (now (trees .exit)) (now (locals .exit)) (now (bits .exit))
-      ≡ askLower (config h (now (table .entry))) q name t row class (st (now (trees .entry)) (now (locals .entry)) (now (bits .entry)) looks tries))
-      × ((r .looks ≤ looks) × (r .tries ≤ tries + 1)) ⌝ }
+        ≡ askLower (config h (now (table .entry))) q name t row class (st (now (trees .entry)) (now (locals .entry)) (now (bits .entry)) looks tries))
+        × ((r .looks ≤ looks) × (r .tries ≤ tries + 1)) ⌝ }
 {
     match lower::lower_get(bits, row, q.order, name) {
         Found::At(f) => Routed {
@@ -71,8 +71,8 @@ pub fn steal_global(
 ) -> Routed
     requires { ⌜ Fits h q × ((t < 2 ^ 53) × ((looks < 2 ^ 32) × (tries < 2 ^ 32))) ⌝ }
     ensures { λ r. ⌜ (ended r (now (trees .exit)) (now (locals .exit)) (now (bits .exit))
-      ≡ stealGlobal (config h (now (table .entry))) q name t (st (now (trees .entry)) (now (locals .entry)) (now (bits .entry)) looks tries))
-      × ((r .looks ≤ looks) × (r .tries ≤ tries + 1)) ⌝ }
+        ≡ stealGlobal (config h (now (table .entry))) q name t (st (now (trees .entry)) (now (locals .entry)) (now (bits .entry)) looks tries))
+        × ((r .looks ≤ looks) × (r .tries ≤ tries + 1)) ⌝ }
 {
     match trees::steal(h, table, trees, t, q.class, bits::frames(q.order) as usize) {
         Took::No => Routed {
@@ -112,8 +112,8 @@ pub fn unreserve_local(
 ) -> Routed
     requires { ⌜ (h .default < 8) × ((class < 8) × (l .free < 2 ^ 32)) ⌝ }
     ensures { λ r. ⌜ (ended r (now (trees .exit)) (now (locals .exit)) (now (bits .exit))
-      ≡ unreserveLocal (config h (now (table .entry))) l class (st (now (trees .entry)) (now (locals .entry)) (now (bits .entry)) looks tries) (done f class) stuck)
-      × ((r .looks ≤ looks) × (r .tries ≤ tries)) ⌝ }
+        ≡ unreserveLocal (config h (now (table .entry))) l class (st (now (trees .entry)) (now (locals .entry)) (now (bits .entry)) looks tries) (done f class) stuck)
+        × ((r .looks ≤ looks) × (r .tries ≤ tries)) ⌝ }
 {
     if l.present {
         match trees::unreserve(h, table, trees, l.row / 32, class, l.free) {
@@ -169,8 +169,8 @@ pub fn reserved(
 ) -> Routed
     requires { ⌜ Fits h q × ((t < 2 ^ 53) × ((looks < 2 ^ 32) × (tries < 2 ^ 32))) ⌝ }
     ensures { λ r. ⌜ (ended r (now (trees .exit)) (now (locals .exit)) (now (bits .exit))
-      ≡ reserved (config h (now (table .entry))) q j t old (st (now (trees .entry)) (now (locals .entry)) (now (bits .entry)) looks tries))
-      × ((r .looks ≤ looks) × (r .tries ≤ tries + 1)) ⌝ }
+        ≡ reserved (config h (now (table .entry))) q j t old (st (now (trees .entry)) (now (locals .entry)) (now (bits .entry)) looks tries))
+        × ((r .looks ≤ looks) × (r .tries ≤ tries + 1)) ⌝ }
 {
     match lower::lower_get(bits, t * 32, q.order, Name::Any) {
         Found::At(f) => {
@@ -184,7 +184,18 @@ pub fn reserved(
                     present: true,
                 },
             );
-            unreserve_local(h, table, trees, locals, bits, q.class, l, f, looks, tries + 1)
+            unreserve_local(
+                h,
+                table,
+                trees,
+                locals,
+                bits,
+                q.class,
+                l,
+                f,
+                looks,
+                tries + 1,
+            )
         }
         Found::Nothing => match trees::unreserve(h, table, trees, t, q.class, old as usize) {
             Took::Yes(_) => Routed {
@@ -216,8 +227,8 @@ pub fn reserve_or_steal(
 ) -> Routed
     requires { ⌜ Fits h q × ((t < 2 ^ 53) × ((looks < 2 ^ 32) × (tries < 2 ^ 32))) ⌝ }
     ensures { λ r. ⌜ (ended r (now (trees .exit)) (now (locals .exit)) (now (bits .exit))
-      ≡ reserveOrSteal (config h (now (table .entry))) q j t (st (now (trees .entry)) (now (locals .entry)) (now (bits .entry)) looks tries))
-      × ((r .looks ≤ looks) × (r .tries ≤ tries + 1)) ⌝ }
+        ≡ reserveOrSteal (config h (now (table .entry))) q j t (st (now (trees .entry)) (now (locals .entry)) (now (bits .entry)) looks tries))
+        × ((r .looks ≤ looks) × (r .tries ≤ tries + 1)) ⌝ }
 {
     match trees::reserve_or_steal(h, table, trees, t, q.class, bits::frames(q.order) as usize) {
         Taken::No => Routed {
@@ -261,16 +272,12 @@ pub fn access(
 ) -> Routed
     requires { ⌜ Fits h q × ((t < 2 ^ 53) × ((looks < 2 ^ 32) × (tries < 2 ^ 32))) ⌝ }
     ensures { λ r. ⌜ (ended r (now (trees .exit)) (now (locals .exit)) (now (bits .exit))
-      ≡ access (config h (now (table .entry))) q walk j t (st (now (trees .entry)) (now (locals .entry)) (now (bits .entry)) looks tries))
-      × ((r .looks ≤ looks) × (r .tries ≤ tries + 1)) ⌝ }
+        ≡ access (config h (now (table .entry))) q walk j t (st (now (trees .entry)) (now (locals .entry)) (now (bits .entry)) looks tries))
+        × ((r .looks ≤ looks) × (r .tries ≤ tries + 1)) ⌝ }
 {
     match walk {
-        Walk::Near => {
-            reserve_or_steal(h, table, trees, locals, bits, q, j, t, looks, tries)
-        }
-        Walk::Far => {
-            reserve_or_steal(h, table, trees, locals, bits, q, j, t, looks, tries)
-        }
+        Walk::Near => { reserve_or_steal(h, table, trees, locals, bits, q, j, t, looks, tries) }
+        Walk::Far => { reserve_or_steal(h, table, trees, locals, bits, q, j, t, looks, tries) }
         Walk::Stealing => {
             steal_global(h, table, trees, locals, bits, q, Name::Any, t, looks, tries)
         }

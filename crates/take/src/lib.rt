@@ -31,8 +31,8 @@ pub fn get_local(
 ) -> Routed
     requires { ⌜ Fits h q × ((syncs < 2) × ((looks < 2 ^ 32) × (tries < 2 ^ 32))) ⌝ }
     ensures { λ r. ⌜ (ended r (now (trees .exit)) (now (locals .exit)) (now (bits .exit))
-      ≡ getLocal syncs (config h (now (table .entry))) q name j (st (now (trees .entry)) (now (locals .entry)) (now (bits .entry)) looks tries))
-      × ((r .looks ≤ looks) × (r .tries ≤ tries + 1)) ⌝ }
+        ≡ getLocal syncs (config h (now (table .entry))) q name j (st (now (trees .entry)) (now (locals .entry)) (now (bits .entry)) looks tries))
+        × ((r .looks ≤ looks) × (r .tries ≤ tries + 1)) ⌝ }
 {
     let n = bits::frames(q.order) as usize;
     match local::take(locals, j, name, n) {
@@ -58,7 +58,21 @@ pub fn get_local(
             }
         },
         Held::Few { row, free } => {
-            top_up(h, table, trees, locals, bits, q, name, j, row, free, syncs, looks, tries)
+            top_up(
+                h,
+                table,
+                trees,
+                locals,
+                bits,
+                q,
+                name,
+                j,
+                row,
+                free,
+                syncs,
+                looks,
+                tries,
+            )
         }
         Held::Absent => Routed {
             got: Got::Missed,
@@ -86,8 +100,8 @@ pub fn top_up(
 ) -> Routed
     requires { ⌜ Fits h q × ((syncs < 2) × ((looks < 2 ^ 32) × (tries < 2 ^ 32))) ⌝ }
     ensures { λ r. ⌜ (ended r (now (trees .exit)) (now (locals .exit)) (now (bits .exit))
-      ≡ topUp syncs (config h (now (table .entry))) q name j row free (st (now (trees .entry)) (now (locals .entry)) (now (bits .entry)) looks tries))
-      × ((r .looks ≤ looks) × (r .tries ≤ tries + 1)) ⌝ }
+        ≡ topUp syncs (config h (now (table .entry))) q name j row free (st (now (trees .entry)) (now (locals .entry)) (now (bits .entry)) looks tries))
+        × ((r .looks ≤ looks) × (r .tries ≤ tries + 1)) ⌝ }
 {
     if syncs == 0 {
         return Routed {
@@ -107,7 +121,19 @@ pub fn top_up(
     match trees::sync(trees, row / 32, n - free) {
         Synced::Free(x) => {
             if local::put(locals, j, row / 32, x as usize) {
-                return get_local(h, table, trees, locals, bits, q, name, j, syncs - 1, looks, tries);
+                return get_local(
+                    h,
+                    table,
+                    trees,
+                    locals,
+                    bits,
+                    q,
+                    name,
+                    j,
+                    syncs - 1,
+                    looks,
+                    tries,
+                );
             }
             trees::put(h, table, trees, row / 32, x as usize);
             Routed {
@@ -139,8 +165,8 @@ pub fn own_local(
 ) -> Routed
     requires { ⌜ Fits h q × ((indexOf local < 2 ^ 32) × ((looks < 2 ^ 32) × (tries < 2 ^ 32))) ⌝ }
     ensures { λ r. ⌜ (ended r (now (trees .exit)) (now (locals .exit)) (now (bits .exit))
-      ≡ ownLocal (config h (now (table .entry))) q name local (st (now (trees .entry)) (now (locals .entry)) (now (bits .entry)) looks tries))
-      × ((r .looks ≤ looks) × (r .tries ≤ tries + 1)) ⌝ }
+        ≡ ownLocal (config h (now (table .entry))) q name local (st (now (trees .entry)) (now (locals .entry)) (now (bits .entry)) looks tries))
+        × ((r .looks ≤ looks) × (r .tries ≤ tries + 1)) ⌝ }
 {
     match local {
         Given::Local(i) => {

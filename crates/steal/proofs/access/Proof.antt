@@ -46,9 +46,13 @@ same-length-3 c = search needs
 -- src/lib.rt:249:1
 returns : tie.Need-returns
 unfolding access
-returns c =
-    (rw (c .before .before .before .before .before .before .before .before .before .before .enum-told .given .1,
-    ← c .before .before .before .before .before .before .reserve-or-steal .ensures .0), (search needs, search needs))
+returns c = (
+  rw (
+    c .before .before .before .before .before .before .before .before .before .before .enum-told .given .1,
+    ← c .before .before .before .before .before .before .reserve-or-steal .ensures .0,
+  ),
+  (search needs, search needs),
+)
 
 -- src/lib.rt:249:1
 same-length-4 : tie.Need-same-length-4
@@ -65,9 +69,13 @@ same-length-6 c = search needs
 -- src/lib.rt:249:1
 returns-2 : tie.Need-returns-2
 unfolding access
-returns-2 c =
-    (rw (c .before .before .before .before .before .before .before .before .before .before .enum-told2 .given .1,
-    ← c .before .before .before .before .before .before .reserve-or-steal2 .ensures .0), (search needs, search needs))
+returns-2 c = (
+  rw (
+    c .before .before .before .before .before .before .before .before .before .before .enum-told2 .given .1,
+    ← c .before .before .before .before .before .before .reserve-or-steal2 .ensures .0,
+  ),
+  (search needs, search needs),
+)
 
 -- src/lib.rt:249:1
 same-length-7 : tie.Need-same-length-7
@@ -84,9 +92,13 @@ same-length-9 c = search needs
 -- src/lib.rt:249:1
 returns-3 : tie.Need-returns-3
 unfolding access
-returns-3 c =
-    (rw (c .before .before .before .before .before .before .before .before .before .before .enum-told3 .given .1,
-    ← c .before .before .before .before .before .before .steal-global .ensures .0), (search needs, search needs))
+returns-3 c = (
+  rw (
+    c .before .before .before .before .before .before .before .before .before .before .enum-told3 .given .1,
+    ← c .before .before .before .before .before .before .steal-global .ensures .0,
+  ),
+  (search needs, search needs),
+)
 
 pub access-spec : {M : Type 1} → statement M
 access-spec =

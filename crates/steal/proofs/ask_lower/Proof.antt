@@ -49,9 +49,13 @@ same-length c = search needs
 -- src/lib.rt:20:1
 returns : tie.Need-returns
 unfolding askLower stealGlobal reserved reserveOrSteal access onTook onTaken onFound onSwap done missed missedAt stuck putEntry unreserve unreserveLocal withTrees withLocals withTry ifte
-returns c =
-    (rw (← c .before .before .before .before .before .lower-get .ensures,
-    c .before .f .given .1), (search needs, search needs))
+returns c = (
+  rw (
+    ← c .before .before .before .before .before .lower-get .ensures,
+    c .before .f .given .1,
+  ),
+  (search needs, search needs),
+)
 
 -- src/lib.rt:20:1
 same-length-2 : tie.Need-same-length-2
@@ -64,11 +68,15 @@ same-length-3 c = search needs
 -- src/lib.rt:20:1
 returns-2 : tie.Need-returns-2
 unfolding askLower stealGlobal reserved reserveOrSteal access onTook onTaken onFound onSwap done missed missedAt stuck putEntry unreserve unreserveLocal withTrees withLocals withTry ifte
-returns-2 c =
-    (rw (← c .before .before .before .before .before .before .before .before .before .lower-get .ensures,
+returns-2 c = (
+  rw (
+    ← c .before .before .before .before .before .before .before .before .before .lower-get .ensures,
     c .before .before .before .before .before .enum-told .given .1,
     ← c .before .before .before .frames .ensures,
-    ← c .before .before .put .ensures), (search needs, search needs))
+    ← c .before .before .put .ensures,
+  ),
+  (search needs, search needs),
+)
 
 pub ask-lower-spec : {M : Type 1} → statement M
 ask-lower-spec =

@@ -53,10 +53,14 @@ same-length c = search needs
 -- src/lib.rt:205:1
 returns : tie.Need-returns
 unfolding reserveOrSteal onTaken missed withTrees
-returns c =
-    (rw (← c .before .before .before .before .before .frames .ensures,
+returns c = (
+  rw (
+    ← c .before .before .before .before .before .frames .ensures,
     ← c .before .before .before .before .reserve-or-steal .ensures,
-    c .enum-told .given .1), (search needs, search needs))
+    c .enum-told .given .1,
+  ),
+  (search needs, search needs),
+)
 
 -- src/lib.rt:205:1
 same-length-2 : tie.Need-same-length-2
@@ -73,11 +77,15 @@ same-length-4 c = search needs
 -- src/lib.rt:205:1
 returns-2 : tie.Need-returns-2
 unfolding reserveOrSteal onTaken missed withTrees
-returns-2 c =
-    (rw (← c .before .before .before .before .before .before .before .before .before .before .before .before .before .before .before .before .frames .ensures,
+returns-2 c = (
+  rw (
+    ← c .before .before .before .before .before .before .before .before .before .before .before .before .before .before .before .before .frames .ensures,
     ← c .before .before .before .before .before .before .before .before .before .before .before .before .before .before .before .reserve-or-steal .ensures,
     c .before .before .before .before .before .before .before .before .before .before .before .e .given .1,
-    ← c .before .before .before .before .before .before .ask-lower .ensures .0), (search needs, search needs))
+    ← c .before .before .before .before .before .before .ask-lower .ensures .0,
+  ),
+  (search needs, search needs),
+)
 
 -- src/lib.rt:205:1
 same-length-5 : tie.Need-same-length-5
@@ -94,11 +102,15 @@ same-length-7 c = search needs
 -- src/lib.rt:205:1
 returns-3 : tie.Need-returns-3
 unfolding reserveOrSteal onTaken missed withTrees
-returns-3 c =
-    (rw (← c .before .before .before .before .before .before .before .before .before .before .before .before .before .before .before .before .frames .ensures,
+returns-3 c = (
+  rw (
+    ← c .before .before .before .before .before .before .before .before .before .before .before .before .before .before .before .before .frames .ensures,
     ← c .before .before .before .before .before .before .before .before .before .before .before .before .before .before .before .reserve-or-steal .ensures,
     c .before .before .before .before .before .before .before .before .before .before .before .e2 .given .1,
-    ← c .before .before .before .before .before .before .reserved .ensures .0), (search needs, search needs))
+    ← c .before .before .before .before .before .before .reserved .ensures .0,
+  ),
+  (search needs, search needs),
+)
 
 pub reserve-or-steal-spec : {M : Type 1} → statement M
 reserve-or-steal-spec =

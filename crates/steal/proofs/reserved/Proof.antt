@@ -92,13 +92,17 @@ same-length-3 c = search needs
 -- src/lib.rt:157:1
 returns : tie.Need-returns
 unfolding askLower stealGlobal reserved reserveOrSteal access onTook onTaken onFound onSwap done missed missedAt stuck putEntry unreserve unreserveLocal withTrees withLocals withTry ifte
-returns c =
-    (rw (← c .before .before .before .before .before .before .before .before .before .before .before .before .before .before .before .before .before .before .before .before .before .lower-get .ensures,
+returns c = (
+  rw (
+    ← c .before .before .before .before .before .before .before .before .before .before .before .before .before .before .before .before .before .before .before .before .before .lower-get .ensures,
     c .before .before .before .before .before .before .before .before .before .before .before .before .before .before .before .before .before .f .given .1,
     ← c .before .before .before .before .before .before .before .before .before .before .before .before .before .before .before .frames .ensures,
     ← c .before .before .before .before .before .before .before .before .before .before .before .before .before .less .ensures,
     ← c .before .before .before .before .before .before .before .before .before .before .before .before .swap .ensures .0,
-    ← c .before .before .before .before .before .before .unreserve-local .ensures .0), (search needs, search needs))
+    ← c .before .before .before .before .before .before .unreserve-local .ensures .0,
+  ),
+  (search needs, search needs),
+)
 
 -- src/lib.rt:157:1
 same-length-4 : tie.Need-same-length-4
@@ -111,11 +115,15 @@ same-length-5 c = search needs
 -- src/lib.rt:157:1
 returns-2 : tie.Need-returns-2
 unfolding askLower stealGlobal reserved reserveOrSteal access onTook onTaken onFound onSwap done missed missedAt stuck putEntry unreserve unreserveLocal withTrees withLocals withTry ifte
-returns-2 c =
-    (rw (← c .before .before .before .before .before .before .before .before .before .before .lower-get .ensures,
+returns-2 c = (
+  rw (
+    ← c .before .before .before .before .before .before .before .before .before .before .lower-get .ensures,
     c .before .before .before .before .before .before .enum-told .given .1,
     ← c .before .before .before .before .unreserve .ensures,
-    c .enum-told2 .given .1), (search needs, search needs))
+    c .enum-told2 .given .1,
+  ),
+  (search needs, search needs),
+)
 
 -- src/lib.rt:157:1
 same-length-6 : tie.Need-same-length-6
@@ -128,11 +136,15 @@ same-length-7 c = search needs
 -- src/lib.rt:157:1
 returns-3 : tie.Need-returns-3
 unfolding askLower stealGlobal reserved reserveOrSteal access onTook onTaken onFound onSwap done missed missedAt stuck putEntry unreserve unreserveLocal withTrees withLocals withTry ifte
-returns-3 c =
-    (rw (← c .before .before .before .before .before .before .before .before .before .before .lower-get .ensures,
+returns-3 c = (
+  rw (
+    ← c .before .before .before .before .before .before .before .before .before .before .lower-get .ensures,
     c .before .before .before .before .before .before .enum-told .given .1,
     ← c .before .before .before .before .unreserve .ensures,
-    c .enum-told3 .given .1), (search needs, search needs))
+    c .enum-told3 .given .1,
+  ),
+  (search needs, search needs),
+)
 
 pub reserved-spec : {M : Type 1} → statement M
 reserved-spec =

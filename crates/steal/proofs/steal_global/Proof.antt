@@ -44,10 +44,14 @@ same-length c = search needs
 -- src/lib.rt:60:1
 returns : tie.Need-returns
 unfolding stealGlobal onTook missed withTrees
-returns c =
-    (rw (← c .before .before .before .before .before .frames .ensures,
+returns c = (
+  rw (
+    ← c .before .before .before .before .before .frames .ensures,
     ← c .before .before .before .before .steal .ensures,
-    c .enum-told .given .1), (search needs, search needs))
+    c .enum-told .given .1,
+  ),
+  (search needs, search needs),
+)
 
 -- src/lib.rt:60:1
 same-length-2 : tie.Need-same-length-2
@@ -64,11 +68,15 @@ same-length-4 c = search needs
 -- src/lib.rt:60:1
 returns-2 : tie.Need-returns-2
 unfolding stealGlobal onTook missed withTrees
-returns-2 c =
-    (rw (← c .before .before .before .before .before .before .before .before .before .before .before .before .before .before .before .before .frames .ensures,
+returns-2 c = (
+  rw (
+    ← c .before .before .before .before .before .before .before .before .before .before .before .before .before .before .before .before .frames .ensures,
     ← c .before .before .before .before .before .before .before .before .before .before .before .before .before .before .before .steal .ensures,
     c .before .before .before .before .before .before .before .before .before .before .before .e .given .1,
-    ← c .before .before .before .before .before .before .ask-lower .ensures .0), (search needs, search needs))
+    ← c .before .before .before .before .before .before .ask-lower .ensures .0,
+  ),
+  (search needs, search needs),
+)
 
 pub steal-global-spec : {M : Type 1} → statement M
 steal-global-spec =

@@ -27,10 +27,14 @@ same-length c = search needs
 -- src/lib.rt:101:1
 returns : tie.Need-returns
 unfolding askLower stealGlobal reserved reserveOrSteal access onTook onTaken onFound onSwap done missed missedAt stuck putEntry unreserve unreserveLocal withTrees withLocals withTry ifte
-returns c =
-    (rw (c .before .before .before .before .before .before .before .if1 .taken,
+returns c = (
+  rw (
+    c .before .before .before .before .before .before .before .if1 .taken,
     ← c .before .before .before .before .unreserve .ensures,
-    c .enum-told .given .1), (search needs, search needs))
+    c .enum-told .given .1,
+  ),
+  (search needs, search needs),
+)
 
 -- src/lib.rt:101:1
 same-length-2 : tie.Need-same-length-2
@@ -39,10 +43,14 @@ same-length-2 c = search needs
 -- src/lib.rt:101:1
 returns-2 : tie.Need-returns-2
 unfolding askLower stealGlobal reserved reserveOrSteal access onTook onTaken onFound onSwap done missed missedAt stuck putEntry unreserve unreserveLocal withTrees withLocals withTry ifte
-returns-2 c =
-    (rw (c .before .before .before .before .before .before .before .if1 .taken,
+returns-2 c = (
+  rw (
+    c .before .before .before .before .before .before .before .if1 .taken,
     ← c .before .before .before .before .unreserve .ensures,
-    c .enum-told2 .given .1), (search needs, search needs))
+    c .enum-told2 .given .1,
+  ),
+  (search needs, search needs),
+)
 
 -- src/lib.rt:101:1
 returns-3 : tie.Need-returns-3

@@ -331,13 +331,17 @@ get-local-returns : (t : ℕ) → get-local-lts.Need-returns (
   top-up.Post,
 ) (get-local-at t) get-local.Post
 unfolding getLocal takeBy topBy onHeld onFound onSync onPut done missed missedAt putEntry setRow withTrees withLocals withTry ifte
-get-local-returns t c =
-    (rw (← c .before .before .before .before .before .before .before .before .before .before .before .before .before .before .before .before .before .before .frames .ensures,
+get-local-returns t c = (
+  rw (
+    ← c .before .before .before .before .before .before .before .before .before .before .before .before .before .before .before .before .before .before .frames .ensures,
     ← c .before .before .before .before .before .before .before .before .before .before .before .before .before .before .before .before .take .ensures,
     c .before .before .before .before .before .before .before .before .before .before .before .before .row .given .1,
     ← c .before .before .before .before .before .before .before .before .before .lower-get .ensures,
     c .before .before .before .before .before .f .given .1,
-    ← c .before .before .set-start .ensures), (search needs, search needs))
+    ← c .before .before .set-start .ensures,
+  ),
+  (search needs, search needs),
+)
 
 -- src/lib.rt:19:1
 get-local-same-length-3 : (t : ℕ) → get-local-lts.Need-same-length-3 (
@@ -406,13 +410,17 @@ get-local-returns-2 : (t : ℕ) → get-local-lts.Need-returns-2 (
   top-up.Post,
 ) (get-local-at t) get-local.Post
 unfolding getLocal takeBy topBy onHeld onFound onSync onPut done missed missedAt putEntry setRow withTrees withLocals withTry ifte
-get-local-returns-2 t c =
-    (rw (← c .before .before .before .before .before .before .before .before .before .before .before .before .before .before .before .before .before .frames .ensures,
+get-local-returns-2 t c = (
+  rw (
+    ← c .before .before .before .before .before .before .before .before .before .before .before .before .before .before .before .before .before .frames .ensures,
     ← c .before .before .before .before .before .before .before .before .before .before .before .before .before .before .before .take .ensures,
     c .before .before .before .before .before .before .before .before .before .before .before .row .given .1,
     ← c .before .before .before .before .before .before .before .before .lower-get .ensures,
     c .before .before .before .before .enum-told .given .1,
-    ← c .before .before .put .ensures), (search needs, search needs))
+    ← c .before .before .put .ensures,
+  ),
+  (search needs, search needs),
+)
 
 -- src/lib.rt:19:1
 get-local-same-length-6 : (t : ℕ) → get-local-lts.Need-same-length-6 (
@@ -481,11 +489,15 @@ get-local-returns-3 : (t : ℕ) → get-local-lts.Need-returns-3 (
   top-up.Post,
 ) (get-local-at t) get-local.Post
 unfolding getLocal takeBy topBy onHeld onFound onSync onPut done missed missedAt putEntry setRow withTrees withLocals withTry ifte
-get-local-returns-3 t c =
-    (rw (← c .before .before .before .before .before .before .before .before .before .before .before .before .before .before .before .before .before .frames .ensures,
+get-local-returns-3 t c = (
+  rw (
+    ← c .before .before .before .before .before .before .before .before .before .before .before .before .before .before .before .before .before .frames .ensures,
     ← c .before .before .before .before .before .before .before .before .before .before .before .before .before .before .before .take .ensures,
     c .before .before .before .before .before .before .before .before .before .before .before .row2 .given .1,
-    ← c .before .before .before .before .before .before .top-up .ensures .0), (search needs, search needs))
+    ← c .before .before .before .before .before .before .top-up .ensures .0,
+  ),
+  (search needs, search needs),
+)
 
 -- src/lib.rt:19:1
 get-local-same-length-9 : (t : ℕ) → get-local-lts.Need-same-length-9 (
@@ -520,10 +532,14 @@ get-local-returns-4 : (t : ℕ) → get-local-lts.Need-returns-4 (
   top-up.Post,
 ) (get-local-at t) get-local.Post
 unfolding getLocal takeBy topBy onHeld onFound onSync onPut done missed missedAt putEntry setRow withTrees withLocals withTry ifte
-get-local-returns-4 t c =
-    (rw (← c .before .before .before .before .before .before .frames .ensures,
+get-local-returns-4 t c = (
+  rw (
+    ← c .before .before .before .before .before .before .frames .ensures,
     ← c .before .before .before .before .take .ensures,
-    c .enum-told2 .given .1), (search needs, search needs))
+    c .enum-told2 .given .1,
+  ),
+  (search needs, search needs),
+)
 
 -- src/lib.rt:93:9
 top-up-returns : (t : ℕ) → top-up-lts.Need-returns (
@@ -586,10 +602,14 @@ top-up-returns-2 : (t : ℕ) → top-up-lts.Need-returns-2 (
   put-reads′.Learnt,
 ) (top-up-at t) top-up.Post
 unfolding getLocal takeBy topBy onHeld onFound onSync onPut done missed missedAt putEntry setRow withTrees withLocals withTry ifte
-top-up-returns-2 t c =
-    (rw (topUp-more _ _ _ _ _ _ _ _ (c .before .before .if1 .left),
+top-up-returns-2 t c = (
+  rw (
+    topUp-more _ _ _ _ _ _ _ _ (c .before .before .if1 .left),
     ← c .before .frames .ensures,
-    lt-ltb _ _ (c .if2 .taken)), (search needs, search needs))
+    lt-ltb _ _ (c .if2 .taken),
+  ),
+  (search needs, search needs),
+)
 
 -- src/lib.rt:107:11
 top-up-sync-requires : (t : ℕ) → top-up-lts.Need-sync-requires (
@@ -740,15 +760,19 @@ top-up-returns-3 : (t : ℕ) → top-up-lts.Need-returns-3 (
   put-reads′.Learnt,
 ) (top-up-at t) top-up.Post
 unfolding getLocal takeBy topBy onHeld onFound onSync onPut done missed missedAt putEntry setRow withTrees withLocals withTry ifte
-top-up-returns-3 t c =
-    (rw (topUp-more _ _ _ _ _ _ _ _ (c .before .before .before .before .before .before .before .before .before .before .before .before .before .before .before .before .before .before .before .before .before .before .before .before .if1 .left),
+top-up-returns-3 t c = (
+  rw (
+    topUp-more _ _ _ _ _ _ _ _ (c .before .before .before .before .before .before .before .before .before .before .before .before .before .before .before .before .before .before .before .before .before .before .before .before .if1 .left),
     ← c .before .before .before .before .before .before .before .before .before .before .before .before .before .before .before .before .before .before .before .before .before .before .before .frames .ensures,
     le-ltb _ _ (c .before .before .before .before .before .before .before .before .before .before .before .before .before .before .before .before .before .before .before .before .before .before .if2 .left),
     ← c .before .before .before .before .before .before .before .before .before .before .before .before .before .before .before .before .before .before .before .before .sync .ensures,
     c .before .before .before .before .before .before .before .before .before .before .before .before .before .before .before .before .x .given .1,
     ← c .before .before .before .before .before .before .before .before .before .before .before .before .before .put .ensures,
     c .before .before .before .before .before .before .before .before .before .before .if3 .taken,
-    ← c .before .before .before .before .before .before .get-local .ensures .0), (search needs, search needs))
+    ← c .before .before .before .before .before .before .get-local .ensures .0,
+  ),
+  (search needs, search needs),
+)
 
 -- src/lib.rt:112:51
 top-up-cast-put-2 : (t : ℕ) → top-up-lts.Need-cast-put-2 (
@@ -839,15 +863,19 @@ top-up-returns-4 : (t : ℕ) → top-up-lts.Need-returns-4 (
   put-reads′.Learnt,
 ) (top-up-at t) top-up.Post
 unfolding getLocal takeBy topBy onHeld onFound onSync onPut done missed missedAt putEntry setRow withTrees withLocals withTry ifte
-top-up-returns-4 t c =
-    (rw (topUp-more _ _ _ _ _ _ _ _ (c .before .before .before .before .before .before .before .before .before .before .before .before .before .before .before .before .before .before .if1 .left),
+top-up-returns-4 t c = (
+  rw (
+    topUp-more _ _ _ _ _ _ _ _ (c .before .before .before .before .before .before .before .before .before .before .before .before .before .before .before .before .before .before .if1 .left),
     ← c .before .before .before .before .before .before .before .before .before .before .before .before .before .before .before .before .before .frames .ensures,
     le-ltb _ _ (c .before .before .before .before .before .before .before .before .before .before .before .before .before .before .before .before .if2 .left),
     ← c .before .before .before .before .before .before .before .before .before .before .before .before .before .before .sync .ensures,
     c .before .before .before .before .before .before .before .before .before .before .x .given .1,
     ← c .before .before .before .before .before .before .before .put .ensures,
     c .before .before .before .before .if3 .left,
-    ← c .before .before .put2 .ensures), (search needs, search needs))
+    ← c .before .before .put2 .ensures,
+  ),
+  (search needs, search needs),
+)
 
 -- src/lib.rt:72:1
 top-up-same-length-6 : (t : ℕ) → top-up-lts.Need-same-length-6 (
@@ -878,12 +906,16 @@ top-up-returns-5 : (t : ℕ) → top-up-lts.Need-returns-5 (
   put-reads′.Learnt,
 ) (top-up-at t) top-up.Post
 unfolding getLocal takeBy topBy onHeld onFound onSync onPut done missed missedAt putEntry setRow withTrees withLocals withTry ifte
-top-up-returns-5 t c =
-    (rw (topUp-more _ _ _ _ _ _ _ _ (c .before .before .before .before .before .before .before .before .if1 .left),
+top-up-returns-5 t c = (
+  rw (
+    topUp-more _ _ _ _ _ _ _ _ (c .before .before .before .before .before .before .before .before .if1 .left),
     ← c .before .before .before .before .before .before .before .frames .ensures,
     le-ltb _ _ (c .before .before .before .before .before .before .if2 .left),
     ← c .before .before .before .before .sync .ensures,
-    c .enum-told .given .1), (search needs, search needs))
+    c .enum-told .given .1,
+  ),
+  (search needs, search needs),
+)
 
 pub +get-local+top-up-spec : {M : Type 1} → statement M
 +get-local+top-up-spec = close μ-get-local μ-top-up (λ t. get-local-lts.spec (

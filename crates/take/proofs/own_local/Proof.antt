@@ -40,10 +40,14 @@ same-length-3 c = search needs
 -- src/lib.rt:128:1
 returns : tie.Need-returns
 unfolding ownLocal missed
-returns c =
-    (rw (c .before .before .before .before .before .before .before .before .before .before .before .before .local .given .1,
+returns c = (
+  rw (
+    c .before .before .before .before .before .before .before .before .before .before .before .before .local .given .1,
     ← c .before .before .before .before .before .before .before .before .before .before .slot .ensures,
-    ← c .before .before .before .before .before .before .get-local .ensures .0), (search needs, search needs))
+    ← c .before .before .before .before .before .before .get-local .ensures .0,
+  ),
+  (search needs, search needs),
+)
 
 -- src/lib.rt:128:1
 returns-2 : tie.Need-returns-2
