@@ -1,0 +1,313 @@
+// llfree.rs, steal_local and demote_local: frames of another reservation.
+use rules::Given;
+use rules::Header;
+use rules::Held;
+use rules::Local;
+use rules::Name;
+use rules::Payer;
+use rules::Request;
+use rules::Took;
+use ways::Got;
+use ways::Routed;
+ghost use mathlib.Core.Path.{_≡_};
+ghost use Prim.Native.Nat.{_+_, _*_, _^_, _<_, _≤_};
+ghost use Rattle.rules.specs.Words.{config};
+ghost use Rattle.ways.specs.State.{st, ended, indexOf};
+ghost use Rattle.ways.specs.Locals.{payFrom, stealLocal, demoteTo, moveFrom, demoteLocal};
+ghost use Rattle.ways.specs.Get.{lastRoutes};
+ghost use Rattle.ways.specs.Fits.{Fits};
+
+// The given index, 0 if none.
+pub fn index_of(local: Given) -> usize
+    ensures { λ r. ⌜ r ≡ indexOf local ⌝ }
+{
+    match local {
+        Given::Local(i) => i,
+        Given::Nothing => 0,
+    }
+}
+
+// The payer pays; its class is answered.
+fn pay_from(
+    h: Header,
+    table: &[u32; 64],
+    trees: &mut [u32],
+    locals: &mut [u64],
+    bits: &mut [u64],
+    q: Request,
+    name: Name,
+    payer: Payer,
+    looks: usize,
+    tries: usize,
+) -> Routed
+    requires { ⌜ Fits h q × ((looks < 2 ^ 32) × (tries < 2 ^ 32)) ⌝ }
+    ensures { λ r. ⌜ (ended r (now (trees .exit)) (now (locals .exit)) (now (bits .exit))
+        ≡ payFrom (config h (now (table .entry))) q name payer (st (now (trees .entry)) (now (locals .entry)) (now (bits .entry)) looks tries))
+        × ((r .looks ≤ looks) × (r .tries ≤ tries + 1)) ⌝ }
+{
+    match payer {
+        Payer::Nobody => Routed {
+            got: Got::Missed,
+            looks: looks,
+            tries: tries,
+        },
+        Payer::Local { class, slot } => {
+            match local::take(locals, slot, name, bits::frames(q.order) as usize) {
+                Held::Row(row) => steal::ask_lower(
+                    h,
+                    table,
+                    trees,
+                    locals,
+                    bits,
+                    q,
+                    name,
+                    row / 32,
+                    row,
+                    class,
+                    looks,
+                    tries,
+                ),
+                Held::Few { row: _, free: _ } => Routed {
+                    got: Got::Missed,
+                    looks: looks,
+                    tries: tries,
+                },
+                Held::Absent => Routed {
+                    got: Got::Missed,
+                    looks: looks,
+                    tries: tries,
+                },
+            }
+        }
+    }
+}
+
+// Steal from locals: over classes c, c+1, .. modulo 8 whose kind is Steal or Match.
+pub fn steal_local(
+    h: Header,
+    table: &[u32; 64],
+    trees: &mut [u32],
+    locals: &mut [u64],
+    bits: &mut [u64],
+    q: Request,
+    name: Name,
+    looks: usize,
+    tries: usize,
+) -> Routed
+    requires { ⌜ Fits h q × ((looks < 2 ^ 32) × (tries < 2 ^ 32)) ⌝ }
+    ensures { λ r. ⌜ (ended r (now (trees .exit)) (now (locals .exit)) (now (bits .exit))
+        ≡ stealLocal (config h (now (table .entry))) q name (st (now (trees .entry)) (now (locals .entry)) (now (bits .entry)) looks tries))
+        × ((r .looks ≤ looks) × (r .tries ≤ tries + 1)) ⌝ }
+{
+    let local = q.local;
+    let payer = local::steal_any(
+        h,
+        table,
+        locals,
+        q.class,
+        index_of(local),
+        name,
+        bits::frames(q.order) as usize,
+    );
+    pay_from(h, table, trees, locals, bits, q, name, payer, looks, tries)
+}
+
+// The reservation l moves to the given local and the displaced one is unreserved, or with no local it is unreserved itself; then the lower is asked.
+fn demote_to(
+    h: Header,
+    table: &[u32; 64],
+    trees: &mut [u32],
+    locals: &mut [u64],
+    bits: &mut [u64],
+    q: Request,
+    name: Name,
+    l: Local,
+    local: Given,
+    looks: usize,
+    tries: usize,
+) -> Routed
+    requires { ⌜ Fits h q × ((indexOf local < 2 ^ 32) × ((l .free < 2 ^ 32) × ((looks < 2 ^ 32) × (tries < 2 ^ 32)))) ⌝ }
+    ensures { λ r. ⌜ (ended r (now (trees .exit)) (now (locals .exit)) (now (bits .exit))
+        ≡ demoteTo (config h (now (table .entry))) q name l local (st (now (trees .entry)) (now (locals .entry)) (now (bits .entry)) looks tries))
+        × ((r .looks ≤ looks) × (r .tries ≤ tries + 1)) ⌝ }
+{
+    match local {
+        Given::Local(i) => {
+            let old = local::swap(locals, words::slot(h, q.class, i), l);
+            if old.present {
+                match trees::unreserve(h, table, trees, old.row / 32, q.class, old.free) {
+                    Took::Yes(_) => steal::ask_lower(
+                        h,
+                        table,
+                        trees,
+                        locals,
+                        bits,
+                        q,
+                        name,
+                        l.row / 32,
+                        l.row,
+                        q.class,
+                        looks,
+                        tries,
+                    ),
+                    Took::No => Routed {
+                        got: Got::Stuck,
+                        looks: looks,
+                        tries: tries,
+                    },
+                }
+            } else {
+                steal::ask_lower(
+                    h,
+                    table,
+                    trees,
+                    locals,
+                    bits,
+                    q,
+                    name,
+                    l.row / 32,
+                    l.row,
+                    q.class,
+                    looks,
+                    tries,
+                )
+            }
+        }
+        Given::Nothing => match trees::unreserve(h, table, trees, l.row / 32, q.class, l.free) {
+            Took::Yes(_) => steal::ask_lower(
+                h,
+                table,
+                trees,
+                locals,
+                bits,
+                q,
+                name,
+                l.row / 32,
+                l.row,
+                q.class,
+                looks,
+                tries,
+            ),
+            Took::No => Routed {
+                got: Got::Stuck,
+                looks: looks,
+                tries: tries,
+            },
+        },
+    }
+}
+
+// The reservation is reduced, and leaves its local.
+fn move_from(
+    h: Header,
+    table: &[u32; 64],
+    trees: &mut [u32],
+    locals: &mut [u64],
+    bits: &mut [u64],
+    q: Request,
+    name: Name,
+    payer: Payer,
+    looks: usize,
+    tries: usize,
+) -> Routed
+    requires { ⌜ Fits h q × ((looks < 2 ^ 32) × (tries < 2 ^ 32)) ⌝ }
+    ensures { λ r. ⌜ (ended r (now (trees .exit)) (now (locals .exit)) (now (bits .exit))
+        ≡ moveFrom (config h (now (table .entry))) q name payer (st (now (trees .entry)) (now (locals .entry)) (now (bits .entry)) looks tries))
+        × ((r .looks ≤ looks) × (r .tries ≤ tries + 1)) ⌝ }
+{
+    match payer {
+        Payer::Nobody => Routed {
+            got: Got::Missed,
+            looks: looks,
+            tries: tries,
+        },
+        Payer::Local { class: _, slot } => {
+            match local::take(locals, slot, name, bits::frames(q.order) as usize) {
+                Held::Row(_) => {
+                    let l = local::clear(locals, slot);
+                    let local = q.local;
+                    demote_to(
+                        h,
+                        table,
+                        trees,
+                        locals,
+                        bits,
+                        q,
+                        name,
+                        l,
+                        local,
+                        looks,
+                        tries,
+                    )
+                }
+                Held::Few { row: _, free: _ } => Routed {
+                    got: Got::Missed,
+                    looks: looks,
+                    tries: tries,
+                },
+                Held::Absent => Routed {
+                    got: Got::Missed,
+                    looks: looks,
+                    tries: tries,
+                },
+            }
+        }
+    }
+}
+
+// Demote: over the other classes of kind Demote.
+pub fn demote_local(
+    h: Header,
+    table: &[u32; 64],
+    trees: &mut [u32],
+    locals: &mut [u64],
+    bits: &mut [u64],
+    q: Request,
+    name: Name,
+    looks: usize,
+    tries: usize,
+) -> Routed
+    requires { ⌜ Fits h q × ((looks < 2 ^ 32) × (tries < 2 ^ 32)) ⌝ }
+    ensures { λ r. ⌜ (ended r (now (trees .exit)) (now (locals .exit)) (now (bits .exit))
+        ≡ demoteLocal (config h (now (table .entry))) q name (st (now (trees .entry)) (now (locals .entry)) (now (bits .entry)) looks tries))
+        × ((r .looks ≤ looks) × (r .tries ≤ tries + 1)) ⌝ }
+{
+    let local = q.local;
+    let payer = local::demote_any(
+        h,
+        table,
+        locals,
+        q.class,
+        index_of(local),
+        name,
+        bits::frames(q.order) as usize,
+    );
+    move_from(h, table, trees, locals, bits, q, name, payer, looks, tries)
+}
+
+// Steal from locals, then demote.
+pub fn last_routes(
+    h: Header,
+    table: &[u32; 64],
+    trees: &mut [u32],
+    locals: &mut [u64],
+    bits: &mut [u64],
+    q: Request,
+    name: Name,
+    looks: usize,
+    tries: usize,
+) -> Routed
+    requires { ⌜ Fits h q × ((looks < 2 ^ 31) × (tries < 2 ^ 31)) ⌝ }
+    ensures { λ r. ⌜ (ended r (now (trees .exit)) (now (locals .exit)) (now (bits .exit))
+        ≡ lastRoutes (config h (now (table .entry))) q name (st (now (trees .entry)) (now (locals .entry)) (now (bits .entry)) looks tries))
+        × ((r .looks ≤ looks) × (r .tries ≤ tries + 2)) ⌝ }
+{
+    let r = steal_local(h, table, trees, locals, bits, q, name, looks, tries);
+    let got = r.got;
+    match got {
+        Got::Done { frame: _, class: _ } => r,
+        Got::Missed => demote_local(h, table, trees, locals, bits, q, name, r.looks, r.tries),
+        Got::MissedAt(_) => demote_local(h, table, trees, locals, bits, q, name, r.looks, r.tries),
+        Got::Stuck => r,
+    }
+}
