@@ -1,0 +1,2 @@
+-- the list of the best in words, and its laws
+pub mod List
