@@ -1,2 +1,3 @@
--- the list of the best in words, and its laws
+-- the list of the best in words, and the laws of the list
 pub mod List
+pub mod Laws
