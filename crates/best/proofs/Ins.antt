@@ -55,8 +55,10 @@ module _ (key t : ℕ) (some : 0 < key) (low : t < 2 ^ 32) where
     where
       x : ℕ
       x = key * 2 ^ 32 + t
+
       old : Candidate
       old = rated (suc y / 2 ^ 32) (suc y % 2 ^ 32)
+
       go : (b : Bool) → listOf m (insN m false x ws) ≡ admit m key t (listOf m ws)
           → listOf (suc m) (ifte b (λ _. x ∷ insN m true (suc y) ws) (λ _. suc y ∷ insN m false x ws))
           ≡ take (suc m) (ifte b (λ _. rated key t ∷ old ∷ listOf m ws) (λ _. old ∷ insert key t (listOf m ws)))

@@ -19,51 +19,39 @@ Inv-loop m key t s₀ cur₀ inside₀ k₀ s cur inside k = (k ≤ m) × (lengt
 abbrev μ-loop : tie.MeasureT-loop
 μ-loop m key t s₀ cur₀ inside₀ k₀ s cur inside k = m - k
 
--- src/lib.rt:108:19
 mul-cur : tie.Need-mul-cur Inv-loop μ-loop
 mul-cur c = search needs
 
--- src/lib.rt:108:19
 add-cur : tie.Need-add-cur Inv-loop μ-loop
 add-cur c = search needs
 
--- src/lib.rt:111:5
 loop-holds : tie.Need-loop-holds Inv-loop μ-loop
 loop-holds c = (search needs, search needs, rw sub-zero (part-none _ _ _ _))
 
--- src/lib.rt:112:17
 mul-y : tie.Need-mul-y Inv-loop μ-loop
 mul-y c = search needs
 
--- src/lib.rt:112:17
 array-read-y : tie.Need-array-read-y Inv-loop μ-loop
 array-read-y c = search needs
 
--- src/lib.rt:114:13
 mul-s : tie.Need-mul-s Inv-loop μ-loop
 mul-s c = search needs
 
--- src/lib.rt:114:13
 array-write-s : tie.Need-array-write-s Inv-loop μ-loop
 array-write-s c = search needs
 
--- src/lib.rt:117:13
 mul-s-2 : tie.Need-mul-s-2 Inv-loop μ-loop
 mul-s-2 c = search needs
 
--- src/lib.rt:117:13
 array-write-s-2 : tie.Need-array-write-s-2 Inv-loop μ-loop
 array-write-s-2 c = search needs
 
--- src/lib.rt:121:9
 add-k : tie.Need-add-k Inv-loop μ-loop
 add-k c = search needs
 
--- src/lib.rt:111:5
 loop-less : tie.Need-loop-less Inv-loop μ-loop
 loop-less c = search needs
 
--- src/lib.rt:111:5
 loop-again : tie.Need-loop-again Inv-loop μ-loop
 loop-again c =
     let l = c .before .before .loop in
@@ -72,12 +60,11 @@ loop-again c =
     let t = c .before .loop-test .taken in
     let p = c .before .before .before .pre .0 in
     let r = ⊎-elim (λ w. turn-in (l .k) n (l .cur) (l .inside) (l .s) t p (i .1) (i .2) (w .0 .taken) (w .1) (w .2) (w .3))
-        (λ v. ⊎-elim (λ w. turn-swap (l .k) n (l .cur) (l .inside) (l .s) t p (i .1) (i .2) (w .0 .left) (w .1 .taken) (w .2) (w .3) (w .4))
-        (λ w. turn-keep (l .k) n (l .cur) (l .inside) (l .s) t p (i .1) (i .2) (w .0 .left) (w .1 .left) (w .2) (w .3) (w .4)) v)
-        (c .if1 .came) in
+    (λ v. ⊎-elim (λ w. turn-swap (l .k) n (l .cur) (l .inside) (l .s) t p (i .1) (i .2) (w .0 .left) (w .1 .taken) (w .2) (w .3) (w .4))
+    (λ w. turn-keep (l .k) n (l .cur) (l .inside) (l .s) t p (i .1) (i .2) (w .0 .left) (w .1 .left) (w .2) (w .3) (w .4)) v)
+    (c .if1 .came) in
     (search needs, r .0, r .1)
 
--- src/lib.rt:103:1
 returns : tie.Need-returns Inv-loop μ-loop
 returns c =
     let l = c .before .loop in

@@ -1,3 +1,4 @@
+-- `best::rated_of` meets its contract: a rating is a byte, since a pair is a u32. Assumes nothing.
 use borrow.Author.Needs.{needs}
 use Rattle.best.specs.List.{policy-small}
 use Rattle.best.proofs.rated_of.Statement.{statement}
@@ -7,15 +8,12 @@ use Rattle.best.proofs.rated_of.Lts as lts
 use Rattle.best.proofs.rated_in.Reads as rated-in-reads
 use Rattle.words.proofs.policy_of.Reads as policy-of-reads
 
--- src/lib.rt:85:9
 policy-of-requires : tie.Need-policy-of-requires
 policy-of-requires c κs = search needs
 
--- src/lib.rt:86:5
 rated-in-requires : tie.Need-rated-in-requires
 rated-in-requires c κs = rw (c .policy-of .ensures) (policy-small _ _ (search needs))
 
--- src/lib.rt:82:1
 returns : tie.Need-returns
 returns c = (rw (← c .before .policy-of .ensures) (c .rated-in .ensures .0), search needs)
 

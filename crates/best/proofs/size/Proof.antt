@@ -1,3 +1,4 @@
+-- `best::size` meets its contract: a shift that loses no bit. Assumes nothing.
 use mathlib.Core.Path.{_∙_}
 use Prim.Native.Nat.{_^_}
 use native.Mathlib.Omega.{arith}
@@ -11,11 +12,9 @@ use Rattle.best.proofs.size.Tie as tie
 use Rattle.best.proofs.size.Reads as reads
 use Rattle.best.proofs.size.Lts as lts
 
--- src/lib.rt:84:5
 shl-result : tie.Need-shl-result
 shl-result c = search needs
 
--- src/lib.rt:80:1
 returns : tie.Need-returns
 returns c =
     shl-exact 1 (c .args .order) 64 (lit< tt) (omega arith) ∙ one-mul (2 ^ c .args .order)

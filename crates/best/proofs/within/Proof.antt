@@ -1,3 +1,4 @@
+-- `best::within` meets its contract: a remainder is at most one subtraction where x is below 2n. Assumes nothing.
 use mathlib.Core.Path.{_≡_, refl, sym, _∙_}
 use native.Mathlib.Nat.{mod-lt, mod-eq-of-lt, mod-eq-sub-mod}
 use borrow.Author.Needs.{needs}
@@ -6,21 +7,17 @@ use Rattle.best.proofs.within.Tie as tie
 use Rattle.best.proofs.within.Reads as reads
 use Rattle.best.proofs.within.Lts as lts
 
--- src/lib.rt:19:9
 returns : tie.Need-returns
 returns c =
     (sym (mod-eq-of-lt (c .if1 .taken)), search needs)
 
--- src/lib.rt:22:9
 returns-2 : tie.Need-returns-2
 returns-2 c =
     (sym (mod-eq-sub-mod (c .before .if1 .left) ∙ mod-eq-of-lt (c .if2 .taken)), search needs)
 
--- src/lib.rt:24:5
 rem-result : tie.Need-rem-result
 rem-result c = search needs
 
--- src/lib.rt:14:1
 returns-3 : tie.Need-returns-3
 returns-3 c =
     (refl, mod-lt _ (c .before .before .pre))
