@@ -5,3 +5,4 @@ pub mod Policy
 pub mod Entries
 pub mod Locals
 pub mod Lower
+pub mod Examples

@@ -1,4 +1,5 @@
--- 01, Bench examples: E1 to E12 as a single table with a single claim, by computing the definitions. Assumes nothing.
+-- 01, Bench examples: E1 to E12 as a single table with a single claim, by computing the definitions; and further cases, with figures
+-- that the Rust gave, for what E1 to E12 leave open. Assumes nothing.
 use mathlib.Core.Path.{_≡_, refl}
 use mathlib.Core.Bool.{Bool, true, false}
 use mathlib.Core.List.{List, [], _∷_, _++_}
@@ -44,11 +45,13 @@ tableT f n d =
       pairs = match255 ∷ demote ∷ replicate 6 0 ++ steal ∷ match255 ∷ replicate 54 0;
     }
 
--- a call, or words stored by hand: tree t's entry, the local j, the words of the tree
+-- a get (order, class, local, frame), a put, a start, a drain; or words stored by hand: tree t's entry, the local j, the words of the tree; or all words
 pub data Call : Type 0 where
   asks : ℕ → ℕ → Given → Name → Call
-  starts : Call
+  gives : ℕ → ℕ → Given → ℕ → Call
+  starts drains : Call
   holds : ℕ → ℕ → ℕ → ℕ → List ℕ → Call
+  stands : List ℕ → List ℕ → List ℕ → Call
 
 -- a figure that an example gives, and what is seen of the answer
 pub data Figure : Type 0 where
@@ -70,6 +73,9 @@ paste ws i xs = take i ws ++ xs ++ drop (i + length xs) ws
 
 abbrev pub call : Config → Told → Call → Told
 call c r (asks o k l f) = get c (record { order = o; class = k; local = l }) f (r .trees) (r .locals) (r .bits)
+call c r (gives o k l f) = put c (record { order = o; class = k; local = l }) f (r .trees) (r .locals) (r .bits)
+call c r (stands ts ls bs) = telling 0 0 0 (fresh ts ls bs)
+call c r drains = drain c (r .trees) (r .locals) (r .bits)
 call c r starts = start c true (r .trees) (r .locals) (r .bits)
 call c r (holds t e j l xs) = telling 0 0 0 (fresh (set (r .trees) t e) (set (r .locals) j l) (paste (r .bits) (treeRows (c .order) * t) xs))
 
@@ -82,7 +88,7 @@ pub record Example : Type 0 where
   pub of : Config
   pub calls : List Call
   pub figures : List Figure
-  pub gives : List ℕ
+  pub wants : List ℕ
 
 -- buffers that a start is lent, not clear
 abbrev pub lent : Config → Told
@@ -98,7 +104,7 @@ answered (x ∷ xs) = figuresOf (after (x .of) (start (x .of) true (lent (x .of)
 
 abbrev pub given : List Example → List (List ℕ)
 given [] = []
-given (x ∷ xs) = x .gives ∷ given xs
+given (x ∷ xs) = x .wants ∷ given xs
 
 -- E1's request
 abbrev pub e1 : Call
@@ -115,37 +121,114 @@ heldWords n = replicate n 0xFFFFFFFFFFFFFFFF
 abbrev pub examples : List Example
 examples =
     -- E1 order 0, class 0, local 0
-    record { of = tableT 16384 2 1; calls = e1 ∷ []; figures = number ∷ frame ∷ class ∷ looks ∷ tries ∷ tree 7 ∷ local 0 ∷ []; gives = 0 ∷ 14336 ∷ 0 ∷ 3 ∷ 1 ∷ 0x10000000 ∷ 0x807FF000000000E0 ∷ [] }
+    record { of = tableT 16384 2 1; calls = e1 ∷ []; figures = number ∷ frame ∷ class ∷ looks ∷ tries ∷ tree 7 ∷ local 0 ∷ []; wants = 0 ∷ 14336 ∷ 0 ∷ 3 ∷ 1 ∷ 0x10000000 ∷ 0x807FF000000000E0 ∷ [] }
     -- E2 the same after E1
-    ∷ record { of = tableT 16384 2 1; calls = e1 ∷ e1 ∷ []; figures = number ∷ frame ∷ looks ∷ tries ∷ []; gives = 0 ∷ 14337 ∷ 0 ∷ 1 ∷ [] }
+    ∷ record { of = tableT 16384 2 1; calls = e1 ∷ e1 ∷ []; figures = number ∷ frame ∷ looks ∷ tries ∷ []; wants = 0 ∷ 14337 ∷ 0 ∷ 1 ∷ [] }
     -- E3 order 9, class 1, local 1: start 4 was rounded to 0
-    ∷ record { of = tableT 16384 2 1; calls = asks 9 1 (Given.Local 1) Any ∷ []; figures = number ∷ frame ∷ looks ∷ []; gives = 0 ∷ 0 ∷ 1 ∷ [] }
+    ∷ record { of = tableT 16384 2 1; calls = asks 9 1 (Given.Local 1) Any ∷ []; figures = number ∷ frame ∷ looks ∷ []; wants = 0 ∷ 0 ∷ 1 ∷ [] }
     -- E4 order 9, class 0, no local
-    ∷ record { of = tableT 16384 2 1; calls = asks 9 0 Given.Nothing Any ∷ []; figures = number ∷ frame ∷ looks ∷ tree 0 ∷ []; gives = 0 ∷ 0 ∷ 8 ∷ 0x600 ∷ [] }
+    ∷ record { of = tableT 16384 2 1; calls = asks 9 0 Given.Nothing Any ∷ []; figures = number ∷ frame ∷ looks ∷ tree 0 ∷ []; wants = 0 ∷ 0 ∷ 8 ∷ 0x600 ∷ [] }
     -- E5 after E4, order 0, class 1, no local
-    ∷ record { of = tableT 16384 2 1; calls = asks 9 0 Given.Nothing Any ∷ asks 0 1 Given.Nothing Any ∷ []; figures = number ∷ frame ∷ class ∷ looks ∷ []; gives = 0 ∷ 14336 ∷ 1 ∷ 2 ∷ [] }
+    ∷ record { of = tableT 16384 2 1; calls = asks 9 0 Given.Nothing Any ∷ asks 0 1 Given.Nothing Any ∷ []; figures = number ∷ frame ∷ class ∷ looks ∷ []; wants = 0 ∷ 14336 ∷ 1 ∷ 2 ∷ [] }
     -- E6 after E1, order 0, named frame 0, class 0, local 0: local unchanged
-    ∷ record { of = tableT 16384 2 1; calls = e1 ∷ asks 0 0 (Given.Local 0) (Frame 0) ∷ []; figures = number ∷ frame ∷ local 0 ∷ []; gives = 0 ∷ 0 ∷ 0x807FF000000000E0 ∷ [] }
+    ∷ record { of = tableT 16384 2 1; calls = e1 ∷ asks 0 0 (Given.Local 0) (Frame 0) ∷ []; figures = number ∷ frame ∷ local 0 ∷ []; wants = 0 ∷ 0 ∷ 0x807FF000000000E0 ∷ [] }
     -- E7 E1's request on the state after E1, but local free 0, entry 7's free 1, and of tree 7 only the last frame clear: no sync
-    ∷ record { of = tableT 16384 2 1; calls = e1 ∷ holds 7 0x10000001 0 0x80000000000000E0 (heldWords 31 ++ 0x7FFFFFFFFFFFFFFF ∷ []) ∷ e1 ∷ []; figures = number ∷ frame ∷ []; gives = 0 ∷ 2048 ∷ [] }
+    ∷ record { of = tableT 16384 2 1; calls = e1 ∷ holds 7 0x10000001 0 0x80000000000000E0 (heldWords 31 ++ 0x7FFFFFFFFFFFFFFF ∷ []) ∷ e1 ∷ []; figures = number ∷ frame ∷ []; wants = 0 ∷ 2048 ∷ [] }
     -- E7 with 2, the last two clear: sync
-    ∷ record { of = tableT 16384 2 1; calls = e1 ∷ holds 7 0x10000002 0 0x80000000000000E0 (heldWords 31 ++ 0x3FFFFFFFFFFFFFFF ∷ []) ∷ e1 ∷ []; figures = number ∷ frame ∷ local 0 ∷ []; gives = 0 ∷ 16382 ∷ 0x80001000000000FF ∷ [] }
+    ∷ record { of = tableT 16384 2 1; calls = e1 ∷ holds 7 0x10000002 0 0x80000000000000E0 (heldWords 31 ++ 0x3FFFFFFFFFFFFFFF ∷ []) ∷ e1 ∷ []; figures = number ∷ frame ∷ local 0 ∷ []; wants = 0 ∷ 16382 ∷ 0x80001000000000FF ∷ [] }
     -- E8 named frames 0, 512, 1,024, 1,536 taken at order 0 by class 1, no local
-    ∷ record { of = tableT 2048 1 1; calls = e8 0 ∷ e8 512 ∷ e8 1024 ∷ e8 1536 ∷ []; figures = number ∷ tree 0 ∷ []; gives = 0 ∷ 0x200007FC ∷ [] }
+    ∷ record { of = tableT 2048 1 1; calls = e8 0 ∷ e8 512 ∷ e8 1024 ∷ e8 1536 ∷ []; figures = number ∷ tree 0 ∷ []; wants = 0 ∷ 0x200007FC ∷ [] }
     -- E8 then order 9, class 0, no local: Memory
-    ∷ record { of = tableT 2048 1 1; calls = e8 0 ∷ e8 512 ∷ e8 1024 ∷ e8 1536 ∷ asks 9 0 Given.Nothing Any ∷ []; figures = number ∷ tree 0 ∷ []; gives = 7 ∷ 0x7FC ∷ [] }
+    ∷ record { of = tableT 2048 1 1; calls = e8 0 ∷ e8 512 ∷ e8 1024 ∷ e8 1536 ∷ asks 9 0 Given.Nothing Any ∷ []; figures = number ∷ tree 0 ∷ []; wants = 7 ∷ 0x7FC ∷ [] }
     -- E9 order 12: Order. Order 11 at F = 2,048: Done
-    ∷ record { of = tableT 2048 1 1; calls = asks 12 0 Given.Nothing Any ∷ []; figures = number ∷ []; gives = 2 ∷ [] }
-    ∷ record { of = tableT 2048 1 1; calls = asks 11 0 Given.Nothing Any ∷ []; figures = number ∷ []; gives = 0 ∷ [] }
+    ∷ record { of = tableT 2048 1 1; calls = asks 12 0 Given.Nothing Any ∷ []; figures = number ∷ []; wants = 2 ∷ [] }
+    ∷ record { of = tableT 2048 1 1; calls = asks 11 0 Given.Nothing Any ∷ []; figures = number ∷ []; wants = 0 ∷ [] }
     -- E10 frame 2,049 order 1 is Bounds; frame 1 order 1 is Misaligned
-    ∷ record { of = tableT 2049 1 1; calls = asks 1 0 Given.Nothing (Frame 2049) ∷ []; figures = number ∷ []; gives = 3 ∷ [] }
-    ∷ record { of = tableT 2049 1 1; calls = asks 1 0 Given.Nothing (Frame 1) ∷ []; figures = number ∷ []; gives = 4 ∷ [] }
+    ∷ record { of = tableT 2049 1 1; calls = asks 1 0 Given.Nothing (Frame 2049) ∷ []; figures = number ∷ []; wants = 3 ∷ [] }
+    ∷ record { of = tableT 2049 1 1; calls = asks 1 0 Given.Nothing (Frame 1) ∷ []; figures = number ∷ []; wants = 4 ∷ [] }
     -- E11 frame 2^64 − 1, order 0: Bounds
-    ∷ record { of = tableT 16384 2 1; calls = asks 0 0 Given.Nothing (Frame 0xFFFFFFFFFFFFFFFF) ∷ []; figures = number ∷ []; gives = 3 ∷ [] }
+    ∷ record { of = tableT 16384 2 1; calls = asks 0 0 Given.Nothing (Frame 0xFFFFFFFFFFFFFFFF) ∷ []; figures = number ∷ []; wants = 3 ∷ [] }
     -- E12 T with default 0: Config
-    ∷ record { of = tableT 16384 2 0; calls = starts ∷ []; figures = number ∷ []; gives = 10 ∷ [] }
+    ∷ record { of = tableT 16384 2 0; calls = starts ∷ []; figures = number ∷ []; wants = 10 ∷ [] }
     ∷ []
 
-pub claim : answered examples ≡ given examples
+-- ---- further cases
+
+-- table T with a Match of 5 in place of 255 for class 0
+abbrev pub tableT5 : ℕ → Config
+tableT5 f =
+    record {
+      order = 11;
+      frames = f;
+      default = 1;
+      places = 2 ∷ 2 ∷ replicate 6 0;
+      pairs = 0x05000003 ∷ demote ∷ replicate 6 0 ++ steal ∷ match255 ∷ replicate 54 0;
+    }
+
+-- words in which every eighth frame is held: 1,792 frames of a tree are free, and no aligned block of eight
+abbrev pub combed : ℕ → List ℕ
+combed n = replicate n 0x0101010101010101
+
+-- a tree with frames 0, 512, 1,024 and 1,536 held
+abbrev pub notched : List ℕ
+notched = 1 ∷ replicate 7 0 ++ 1 ∷ replicate 7 0 ++ 1 ∷ replicate 7 0 ++ 1 ∷ replicate 7 0
+
+-- an unnamed get without a local; with local 0
+abbrev pub anyone : ℕ → ℕ → Call
+anyone o k = asks o k Given.Nothing Any
+
+abbrev pub local0 : ℕ → ℕ → Call
+local0 o k = asks o k (Given.Local 0) Any
+
+abbrev pub all5 : List Figure
+all5 = number ∷ frame ∷ class ∷ looks ∷ tries ∷ []
+
+abbrev pub further : List Example
+further =
+    -- a steal from a local answers that local's class, and keeps its row
+    record { of = tableT 4096 1 1; calls = local0 0 0 ∷ anyone 11 1 ∷ anyone 6 1 ∷ []; figures = all5 ++ tree 1 ∷ local 0 ∷ []; wants = 0 ∷ 2112 ∷ 0 ∷ 2 ∷ 1 ∷ 0x10000000 ∷ 0x807bf00000000020 ∷ [] }
+    -- a demote moves the reservation, reduced, to the given local, and keeps its row; the entry keeps its class
+    ∷ record { of = tableT 4096 1 1; calls = local0 0 1 ∷ anyone 11 0 ∷ local0 6 0 ∷ []; figures = all5 ++ tree 1 ∷ local 0 ∷ local 1 ∷ []; wants = 0 ∷ 2112 ∷ 0 ∷ 5 ∷ 1 ∷ 0x30000000 ∷ 0x807bf00000000020 ∷ 0 ∷ [] }
+    -- a demote with no local unreserves it
+    ∷ record { of = tableT 4096 1 1; calls = local0 0 1 ∷ anyone 11 0 ∷ anyone 6 0 ∷ []; figures = all5 ++ tree 1 ∷ local 0 ∷ local 1 ∷ []; wants = 0 ∷ 2112 ∷ 0 ∷ 2 ∷ 1 ∷ 0x7bf ∷ 0 ∷ 0 ∷ [] }
+    -- an undone reservation does not restore the class
+    ∷ record { of = tableT 4096 1 1; calls = stands (0x200007FC ∷ 0x200007FC ∷ []) (0 ∷ 0 ∷ []) (notched ++ notched) ∷ local0 9 0 ∷ []; figures = all5 ++ tree 0 ∷ tree 1 ∷ local 0 ∷ []; wants = 7 ∷ 0 ∷ 0 ∷ 2 ∷ 2 ∷ 0x7fc ∷ 0x7fc ∷ 0 ∷ [] }
+    -- one payer only: the first local with enough; refused by the lower, its frames go to the entry
+    ∷ record { of = tableT 6144 2 1; calls = stands (0x10000000 ∷ 0x10000000 ∷ 0x20000000 ∷ []) (0x807FC00000000000 ∷ 0x8080000000000020 ∷ 0 ∷ 0 ∷ []) (notched ++ replicate 32 0 ++ heldWords 32) ∷ anyone 9 1 ∷ []; figures = all5 ++ tree 0 ∷ tree 1 ∷ local 0 ∷ local 1 ∷ []; wants = 7 ∷ 0 ∷ 0 ∷ 3 ∷ 1 ∷ 0x10000200 ∷ 0x10000000 ∷ 0x805fc00000000000 ∷ 0x8080000000000020 ∷ [] }
+    -- a named frame in another tree: the own local is synced all the same, and keeps the frames
+    ∷ record { of = tableT 16384 2 1; calls = e1 ∷ holds 7 0x10000005 0 0x80000000000000E0 (heldWords 31 ++ 0x07ffffffffffffff ∷ []) ∷ asks 0 0 (Given.Local 0) (Frame 0) ∷ []; figures = all5 ++ tree 7 ∷ local 0 ∷ []; wants = 0 ∷ 0 ∷ 0 ∷ 0 ∷ 1 ∷ 0x10000000 ∷ 0x80005000000000e0 ∷ [] }
+    -- an entry put that fills a reserved tree sets the default class
+    ∷ record { of = tableT 12288 2 1; calls = local0 11 0 ∷ gives 11 0 Given.Nothing 0 ∷ []; figures = number ∷ tree 0 ∷ local 0 ∷ []; wants = 0 ∷ 0x30000800 ∷ 0x8000000000000000 ∷ [] }
+    -- locals not below n: the stealing search, and no reservation
+    ∷ record { of = tableT 2048 1 1; calls = local0 0 1 ∷ []; figures = all5 ++ tree 0 ∷ local 1 ∷ []; wants = 0 ∷ 0 ∷ 1 ∷ 1 ∷ 1 ∷ 0x200007ff ∷ 0 ∷ [] }
+    -- the near walk comes twice to a tree at n = 2 and n = 3
+    ∷ record { of = tableT5 4096; calls = stands (1792 ∷ 1792 ∷ []) (0 ∷ 0 ∷ []) (combed 64) ∷ local0 3 0 ∷ []; figures = all5; wants = 7 ∷ 0 ∷ 0 ∷ 5 ∷ 5 ∷ [] }
+    ∷ record { of = tableT5 6144; calls = stands (1792 ∷ 1792 ∷ 1792 ∷ []) (0 ∷ 0 ∷ []) (combed 96) ∷ local0 3 0 ∷ []; figures = all5; wants = 7 ∷ 0 ∷ 0 ∷ 6 ∷ 6 ∷ [] }
+    -- a full list admits no equal: the ninth tree, the only one with a block, is not tried
+    ∷ record { of = tableT5 18432; calls = stands (replicate 4 1792 ++ 2047 ∷ replicate 4 1792) (0 ∷ 0 ∷ []) (combed 128 ++ 1 ∷ replicate 31 0 ++ combed 128) ∷ anyone 3 0 ∷ []; figures = all5; wants = 7 ∷ 0 ∷ 0 ∷ 9 ∷ 8 ∷ [] }
+    -- a drain returns E1's reservation
+    ∷ record { of = tableT 16384 2 1; calls = e1 ∷ drains ∷ []; figures = number ∷ tree 7 ∷ local 0 ∷ []; wants = 0 ∷ 0x7FF ∷ 0 ∷ [] }
+    -- a put of a free frame is NotHeld
+    ∷ record { of = tableT 2048 1 1; calls = gives 0 1 Given.Nothing 0 ∷ []; figures = number ∷ tree 0 ∷ []; wants = 8 ∷ 0x20000800 ∷ [] }
+    -- class 2 is unconfigured, class 8 is none; class 0 has one local
+    ∷ record { of = tableT 2048 1 1; calls = anyone 0 2 ∷ []; figures = number ∷ []; wants = 5 ∷ [] }
+    ∷ record { of = tableT 2048 1 1; calls = anyone 0 8 ∷ []; figures = number ∷ []; wants = 5 ∷ [] }
+    ∷ record { of = tableT 2048 1 1; calls = asks 0 0 (Given.Local 1) Any ∷ []; figures = number ∷ []; wants = 6 ∷ [] }
+    -- Broken: an entry one short; bits past F clear; a present local on an unreserved tree; an absent local that is not 0;
+    -- a reserved entry without a holder; two locals on one tree; a pair that is not good
+    ∷ record { of = tableT 2048 1 1; calls = stands (0x200007FF ∷ []) (0 ∷ 0 ∷ []) (replicate 32 0) ∷ anyone 0 1 ∷ []; figures = number ∷ tree 0 ∷ []; wants = 1 ∷ 0x200007FF ∷ [] }
+    ∷ record { of = tableT 2047 1 1; calls = stands (0x20000800 ∷ []) (0 ∷ 0 ∷ []) (replicate 32 0) ∷ anyone 0 1 ∷ []; figures = number ∷ []; wants = 1 ∷ [] }
+    ∷ record { of = tableT 4096 1 1; calls = stands (0x20000800 ∷ 0x30000800 ∷ []) (0x8000000000000000 ∷ 0 ∷ []) (replicate 64 0) ∷ anyone 0 1 ∷ []; figures = number ∷ []; wants = 1 ∷ [] }
+    ∷ record { of = tableT 2048 1 1; calls = stands (0x20000800 ∷ []) (5 ∷ 0 ∷ []) (replicate 32 0) ∷ anyone 0 1 ∷ []; figures = number ∷ []; wants = 1 ∷ [] }
+    ∷ record { of = tableT 2048 1 1; calls = stands (0x30000800 ∷ []) (0 ∷ 0 ∷ []) (replicate 32 0) ∷ anyone 0 1 ∷ []; figures = number ∷ []; wants = 1 ∷ [] }
+    ∷ record { of = tableT 4096 2 1; calls = stands (0x10000000 ∷ 0x30000800 ∷ []) (0x8080000000000000 ∷ 0x8080000000000000 ∷ 0 ∷ 0 ∷ []) (replicate 64 0) ∷ anyone 0 1 ∷ []; figures = number ∷ []; wants = 1 ∷ [] }
+    ∷ record { of = tableT 2048 1 1; calls = stands (0x10000000 ∷ []) (0 ∷ 0x8080000000000000 ∷ []) (replicate 32 0) ∷ anyone 0 1 ∷ []; figures = number ∷ []; wants = 1 ∷ [] }
+    ∷ []
+
+-- E1 to E12, and the further cases, come out as given
+pub claims : (answered examples ≡ given examples) × (answered further ≡ given further)
 unfolding ifte allBelow sum listed firstIn treeCount configured localsOf slot localCount treeOf treeWord localOf localWord pairOf kindOf cutOf lowOf highOf policyOf policy kindAt good pairFormed pairAccepted tableFormed rulesAt tableRules framesAccepted placesAccepted defaultAccepted accepted ifFull classAfter putOf stealKind stealOf reserveKind reserveOf unreserveKind unreserveOf syncOf entryPut keepTook entrySteal entryUnreserve keepTaken entryReserve keepSync entrySync inTree localTake localPut localRow localSwap localClear hasEnough cyclic firstLocal payerOr mayPay mayMove payerIn stealAny demoteAny held heldIn clearBits clear mark searchIn hasTree lowerFind lowerTake lowerGet lowerPut indexOf done missed missedAt stuck orElse withTrees withLocals withBits withTry withLook onTook onTaken onSync onHeld onPut onSwap onFound putEntry setRow askLower unreserve unreserveLocal takeBy topBy topUp getLocal ownLocal payFrom stealLocal demoteTo moveFrom demoteLocal place ratedIn rate insert admit stealGlobal reserved reserveOrSteal access tried offered visit onSight walkSteps walk tryList stopped searchBest near roundDown roundedStart searchFar searchFrom searchAndReserve searchAndSteal lastRoutes getAt startTree orFrom getReserving searchTrees getAny routes lengthsExact entryStands holderStands localStands classStands apart apartBefore reservedCount presentCount pastHeld standing numberOf outcomeOf refuseLocal refuseClass refusal unless ifStanding close frameOf get putTo onGiven put drainLocals onDrained drainClasses closeDrain drain freeAtStart freshTree freshWord freshState start
-claim = refl
+claims = (refl, refl)
+
+pub claim : answered examples ≡ given examples
+claim = claims .0

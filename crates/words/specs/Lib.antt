@@ -1,2 +1,3 @@
--- the definitions are in `rules`
+-- laws that the code of this crate and of those above goes by; the definitions are in `rules`
 pub mod Sums
+pub mod Past

@@ -7,6 +7,7 @@ use rules::Took;
 use rules::Tree;
 ghost use mathlib.Core.Path.{_≡_};
 ghost use Prim.Native.Nat.{_^_, _<_, _≤_};
+ghost use Rattle.rules.specs.Base.{sum};
 ghost use Rattle.rules.specs.Words.{config, treeCount, configured, localsOf, slot, localCount, treeOf, treeWord, localOf, localWord};
 ghost use Rattle.rules.specs.Policy.{policyOf, policy, kindAt};
 ghost use Rattle.rules.specs.Entries.{ifFull, classAfter, putOf, stealOf, reserveOf, unreserveOf, syncOf};
@@ -271,23 +272,31 @@ pub fn locals_of(h: Header, class: usize) -> usize
     if 0 < place { place - 1 } else { 0 }
 }
 
-// The place of a local in the lent words, by class, then index.
-pub fn slot(h: Header, class: usize, index: usize) -> usize
-    requires { ⌜ (class ≤ 8) × (index < 2 ^ 32) ⌝ }
-    ensures { λ r. ⌜ r ≡ slot (h .places) class index ⌝ }
+// The place of a class's first local in the lent words: as many locals stand before it.
+pub fn first_slot(h: Header, class: usize) -> usize
+    requires { ⌜ class ≤ 8 ⌝ }
+    ensures { λ r. ⌜ (r ≡ sum (localsOf (h .places)) 0 class) × (r < 2048) ⌝ }
 {
     let mut first = 0;
     for k in 0..class {
         first = first + locals_of(h, k);
     }
-    first + index
+    first
+}
+
+// The place of a local in the lent words, by class, then index.
+pub fn slot(h: Header, class: usize, index: usize) -> usize
+    requires { ⌜ (class ≤ 8) × (index < 2 ^ 32) ⌝ }
+    ensures { λ r. ⌜ r ≡ slot (h .places) class index ⌝ }
+{
+    first_slot(h, class) + index
 }
 
 // The number of locals of all classes.
 pub fn local_count(h: Header) -> usize
     ensures { λ r. ⌜ r ≡ localCount (h .places) ⌝ }
 {
-    slot(h, 8, 0)
+    first_slot(h, 8)
 }
 
 // The number of trees of so many frames.

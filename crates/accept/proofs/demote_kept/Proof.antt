@@ -1,25 +1,32 @@
+-- `accept::demote_kept` meets its contract. Assumes nothing.
+use Rattle.rules.specs.Policy.{good}
+use borrow.Author.Tests.{eq-eqb, ne-eqb}
 use borrow.Author.Needs.{needs}
 use Rattle.accept.proofs.demote_kept.Statement.{statement}
 use Rattle.accept.proofs.demote_kept.Tie as tie
-use Rattle.accept.proofs.demote_kept.Reads as reads
-use Rattle.accept.proofs.demote_kept.Lts as lts
-use Rattle.accept.proofs.kind_at.Reads as kind-at-reads
 
--- src/lib.rt:78:8
 kind-at-requires : tie.Need-kind-at-requires
 kind-at-requires c κs = search needs
 
--- src/lib.rt:79:21
 kind-at-requires-2 : tie.Need-kind-at-requires-2
 kind-at-requires-2 c κs = search needs
 
--- src/lib.rt:79:9
 returns : tie.Need-returns
-returns c = ?
+unfolding good
+returns c =
+    rw (
+      ← c .before .before .kind-at .ensures,
+      eq-eqb _ _ (c .before .if1 .taken),
+      ← c .kind-at2 .ensures,
+    )
 
--- src/lib.rt:74:1
 returns-2 : tie.Need-returns-2
-returns-2 c = ?
+unfolding good
+returns-2 c =
+    rw (
+      ← c .before .kind-at .ensures,
+      ne-eqb _ _ (c .if1 .left),
+    )
 
 pub demote-kept-spec : {M : Type 1} → statement M
 demote-kept-spec = tie.close (tie.spec kind-at-requires kind-at-requires-2 returns returns-2)

@@ -1,42 +1,44 @@
+-- `accept::demotes_kept` meets its contract. The invariant: the test passes at every number passed. The measure: the numbers left. Assumes nothing.
+use mathlib.Core.Path.{_≡_, sym, _∙_}
+use mathlib.Core.Bool.{true}
+use Prim.Native.Nat.{_≤_, _-_}
+use borrow.Author.Needs.{needs}
+use borrow.Author.Tests.{not-true, not-false}
+use Rattle.rules.specs.Base.{allBelow}
+use Rattle.policy_laws.specs.All.{all-none, all-more, all-fails, all-done}
+use Rattle.rules.specs.Words.{config}
+use Rattle.policy_laws.specs.Rows.{demoteKept, demotesKept}
 use Rattle.accept.proofs.demotes_kept.Statement.{statement}
 use Rattle.accept.proofs.demotes_kept.Tie as tie
-use Rattle.accept.proofs.demotes_kept.Reads as reads
-use Rattle.accept.proofs.demotes_kept.Lts as lts
-use Rattle.accept.proofs.demote_kept.Reads as demote-kept-reads
 
 abbrev Inv-loop : tie.InvT-loop
-Inv-loop h table o e k₀ k = ?
+Inv-loop h table o e k₀ k = (k ≤ 8) × (allBelow k (demoteKept (config h table) o e) ≡ true)
 
 abbrev μ-loop : tie.MeasureT-loop
-μ-loop h table o e k₀ k = ?
+μ-loop h table o e k₀ k = 8 - k
 
--- src/lib.rt:90:5
 loop-holds : tie.Need-loop-holds Inv-loop μ-loop
-loop-holds c = ?
+loop-holds c = (search needs, all-none _)
 
--- src/lib.rt:91:13
 demote-kept-requires : tie.Need-demote-kept-requires Inv-loop μ-loop
-demote-kept-requires c κs = ?
+demote-kept-requires c κs = search needs
 
--- src/lib.rt:92:13
 returns : tie.Need-returns Inv-loop μ-loop
-returns c = ?
+unfolding demotesKept
+returns c = sym (all-fails 8 _ (c .before .before .before .loop .k) (c .before .before .loop-test .taken) (sym (c .before .demote-kept .ensures) ∙ not-true _ (c .if1 .taken)))
 
--- src/lib.rt:94:9
 add-k : tie.Need-add-k Inv-loop μ-loop
-add-k c = ?
+add-k c = search needs
 
--- src/lib.rt:90:5
 loop-less : tie.Need-loop-less Inv-loop μ-loop
-loop-less c = ?
+loop-less c = search needs
 
--- src/lib.rt:90:5
 loop-again : tie.Need-loop-again Inv-loop μ-loop
-loop-again c = ?
+loop-again c = (search needs, all-more _ _ (c .before .before .before .loop .inv .1) (sym (c .before .demote-kept .ensures) ∙ not-false _ (c .if1 .left)))
 
--- src/lib.rt:85:1
 returns-2 : tie.Need-returns-2 Inv-loop μ-loop
-returns-2 c = ?
+unfolding demotesKept
+returns-2 c = sym (all-done 8 (c .before .loop .k) _ (c .before .loop .inv .0) (c .loop-test .left) (c .before .loop .inv .1))
 
 pub demotes-kept-spec : {M : Type 1} → statement M
 demotes-kept-spec =

@@ -1,15 +1,18 @@
+-- `accept::formed` meets its contract. Assumes nothing.
+use Rattle.rules.specs.Policy.{pairFormed, kindOf, cutOf}
+use borrow.Author.Tests.{eq-eqb, ne-eqb}
 use Rattle.accept.proofs.formed.Statement.{statement}
 use Rattle.accept.proofs.formed.Tie as tie
-use Rattle.accept.proofs.formed.Reads as reads
-use Rattle.accept.proofs.formed.Lts as lts
 
--- src/lib.rt:68:9
 returns : tie.Need-returns
-returns c = ?
+unfolding pairFormed kindOf cutOf
+returns c =
+    rw (eq-eqb _ _ (c .if1 .taken))
 
--- src/lib.rt:64:1
 returns-2 : tie.Need-returns-2
-returns-2 c = ?
+unfolding pairFormed kindOf cutOf
+returns-2 c =
+    rw (ne-eqb _ _ (c .if1 .left))
 
 pub formed-spec : {M : Type 1} → statement M
 formed-spec = tie.close (tie.spec returns returns-2)

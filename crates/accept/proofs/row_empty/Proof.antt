@@ -1,132 +1,55 @@
+-- `accept::row_empty` meets its contract. The invariant: the test passes at every number passed. The measure: the numbers left. Assumes nothing.
+use mathlib.Core.Path.{_≡_, sym}
+use mathlib.Core.Bool.{true}
+use Prim.Native.Nat.{_≤_, _-_}
 use borrow.Author.Needs.{needs}
+use borrow.Author.Tests.{eq-eqb, ne-eqb}
+use Rattle.rules.specs.Base.{allBelow}
+use Rattle.rules.specs.Words.{config}
+use Rattle.policy_laws.specs.All.{all-none, all-more, all-fails, all-done}
+use Rattle.policy_laws.specs.Rows.{pairEmpty, rowEmpty}
 use Rattle.accept.proofs.row_empty.Statement.{statement}
 use Rattle.accept.proofs.row_empty.Tie as tie
-use Rattle.accept.proofs.row_empty.Reads as reads
-use Rattle.accept.proofs.row_empty.Lts as lts
-use Rattle.accept.proofs.long.Reads as long-reads
-use Rattle.accept.proofs.pair_at.Reads as pair-at-reads
 
--- src/lib.rt:142:18
-pair-at-requires : tie.Need-pair-at-requires
+abbrev Inv-loop : tie.InvT-loop
+Inv-loop h table o e₀ e = (e ≤ 8) × (allBelow e (pairEmpty (config h table) o) ≡ true)
+
+abbrev μ-loop : tie.MeasureT-loop
+μ-loop h table o e₀ e = 8 - e
+
+loop-holds : tie.Need-loop-holds Inv-loop μ-loop
+loop-holds c = (search needs, all-none _)
+
+pair-at-requires : tie.Need-pair-at-requires Inv-loop μ-loop
 pair-at-requires c κs = search needs
 
--- src/lib.rt:142:13
-long-requires : tie.Need-long-requires
-long-requires c κs = search needs
+returns : tie.Need-returns Inv-loop μ-loop
+unfolding rowEmpty
+returns c = sym (all-fails 8 _ (c .before .before .before .loop .e) (c .before .before .loop-test .taken) (rw (← c .before .pair-at .ensures) (ne-eqb _ _ (c .if1 .taken))))
 
--- src/lib.rt:143:16
-pair-at-requires-2 : tie.Need-pair-at-requires-2
-pair-at-requires-2 c κs = search needs
+add-e : tie.Need-add-e Inv-loop μ-loop
+add-e c = search needs
 
--- src/lib.rt:143:11
-long-requires-2 : tie.Need-long-requires-2
-long-requires-2 c κs = search needs
+loop-less : tie.Need-loop-less Inv-loop μ-loop
+loop-less c = search needs
 
--- src/lib.rt:142:13
-add-a : tie.Need-add-a
-add-a c = search needs
+loop-again : tie.Need-loop-again Inv-loop μ-loop
+loop-again c = (search needs, all-more _ _ (c .before .before .before .loop .inv .1) (rw (← c .before .pair-at .ensures) (eq-eqb _ _ (c .if1 .left))))
 
--- src/lib.rt:144:16
-pair-at-requires-3 : tie.Need-pair-at-requires-3
-pair-at-requires-3 c κs = search needs
-
--- src/lib.rt:144:11
-long-requires-3 : tie.Need-long-requires-3
-long-requires-3 c κs = search needs
-
--- src/lib.rt:142:13
-add-a-2 : tie.Need-add-a-2
-add-a-2 c = search needs
-
--- src/lib.rt:145:16
-pair-at-requires-4 : tie.Need-pair-at-requires-4
-pair-at-requires-4 c κs = search needs
-
--- src/lib.rt:145:11
-long-requires-4 : tie.Need-long-requires-4
-long-requires-4 c κs = search needs
-
--- src/lib.rt:142:13
-add-a-3 : tie.Need-add-a-3
-add-a-3 c = search needs
-
--- src/lib.rt:147:16
-pair-at-requires-5 : tie.Need-pair-at-requires-5
-pair-at-requires-5 c κs = search needs
-
--- src/lib.rt:147:11
-long-requires-5 : tie.Need-long-requires-5
-long-requires-5 c κs = search needs
-
--- src/lib.rt:146:5
-add-result : tie.Need-add-result
-add-result c = search needs
-
--- src/lib.rt:148:16
-pair-at-requires-6 : tie.Need-pair-at-requires-6
-pair-at-requires-6 c κs = search needs
-
--- src/lib.rt:148:11
-long-requires-6 : tie.Need-long-requires-6
-long-requires-6 c κs = search needs
-
--- src/lib.rt:146:5
-add-result-2 : tie.Need-add-result-2
-add-result-2 c = search needs
-
--- src/lib.rt:149:16
-pair-at-requires-7 : tie.Need-pair-at-requires-7
-pair-at-requires-7 c κs = search needs
-
--- src/lib.rt:149:11
-long-requires-7 : tie.Need-long-requires-7
-long-requires-7 c κs = search needs
-
--- src/lib.rt:146:5
-add-result-3 : tie.Need-add-result-3
-add-result-3 c = search needs
-
--- src/lib.rt:150:16
-pair-at-requires-8 : tie.Need-pair-at-requires-8
-pair-at-requires-8 c κs = search needs
-
--- src/lib.rt:150:11
-long-requires-8 : tie.Need-long-requires-8
-long-requires-8 c κs = search needs
-
--- src/lib.rt:146:5
-add-result-4 : tie.Need-add-result-4
-add-result-4 c = search needs
-
--- src/lib.rt:138:1
-returns : tie.Need-returns
-returns c = ?
+returns-2 : tie.Need-returns-2 Inv-loop μ-loop
+unfolding rowEmpty
+returns-2 c = sym (all-done 8 (c .before .loop .e) _ (c .before .loop .inv .0) (c .loop-test .left) (c .before .loop .inv .1))
 
 pub row-empty-spec : {M : Type 1} → statement M
 row-empty-spec =
     tie.close
     (tie.spec
+    Inv-loop
+    μ-loop
+    loop-holds
     pair-at-requires
-    long-requires
-    pair-at-requires-2
-    long-requires-2
-    add-a
-    pair-at-requires-3
-    long-requires-3
-    add-a-2
-    pair-at-requires-4
-    long-requires-4
-    add-a-3
-    pair-at-requires-5
-    long-requires-5
-    add-result
-    pair-at-requires-6
-    long-requires-6
-    add-result-2
-    pair-at-requires-7
-    long-requires-7
-    add-result-3
-    pair-at-requires-8
-    long-requires-8
-    add-result-4
-    returns)
+    returns
+    add-e
+    loop-less
+    loop-again
+    returns-2)

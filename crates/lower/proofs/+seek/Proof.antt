@@ -1,0 +1,299 @@
+use borrow.Author.Needs.{needs}
+use native.Mathlib.Omega.{arith}
+use Rattle.lower_laws.specs.Block.{block-few, half-left, half-right}
+use Rattle.lower_laws.specs.Seek.{leaf-yes, leaf-no, right-only, from-left, from-right, right-reached, left-reached}
+use Prim.Native.Nat.{ℕ, _<_}
+use borrow.Fn.Kinds.{In}
+use borrow.Fn.PlainCycle.{Measures, is, falls, and}
+use Rattle.lower.proofs.seek.Reads as seek
+use Rattle.lower.proofs.seek.Kinds as seek-kinds
+use Rattle.lower.proofs.+seek.Lts-seek as seek-lts
+use Rattle.lower.proofs.is_free.Reads as is-free-reads
+use Rattle.lower.proofs.passed.Reads as passed-reads
+use Rattle.lower.proofs.+seek.{statement}
+use Rattle.lower.proofs.+seek.Tie.{close}
+
+abbrev μ-seek : Measures 1 seek-kinds.ps ℕ
+μ-seek κs a = a .1 .0
+
+abbrev seek-at : ℕ → In 1 seek-kinds.ps
+seek-at t = and 1 seek-kinds.ps (is 1 seek-kinds.ps μ-seek t) seek.Pre
+
+abbrev seek-below : ℕ → In 1 seek-kinds.ps
+seek-below t = and 1 seek-kinds.ps (falls 1 seek-kinds.ps _<_ μ-seek t) seek.Pre
+
+-- src/lib.rt:181:12
+seek-is-free-requires : (t : ℕ) → seek-lts.Need-is-free-requires (
+  is-free-reads.Asked,
+  is-free-reads.Learnt,
+  passed-reads.Asked,
+  passed-reads.Learnt,
+  seek-below t,
+  seek.Post,
+) (seek-at t) seek.Post
+seek-is-free-requires t c κs = search needs
+
+-- src/lib.rt:182:13
+seek-returns : (t : ℕ) → seek-lts.Need-returns (
+  is-free-reads.Asked,
+  is-free-reads.Learnt,
+  passed-reads.Asked,
+  passed-reads.Learnt,
+  seek-below t,
+  seek.Post,
+) (seek-at t) seek.Post
+seek-returns t c = search (needs, leaf-yes)
+
+-- src/lib.rt:184:9
+seek-returns-2 : (t : ℕ) → seek-lts.Need-returns-2 (
+  is-free-reads.Asked,
+  is-free-reads.Learnt,
+  passed-reads.Asked,
+  passed-reads.Learnt,
+  seek-below t,
+  seek.Post,
+) (seek-at t) seek.Post
+seek-returns-2 t c = search (needs, leaf-no)
+
+-- src/lib.rt:186:22
+seek-sub-passed : (t : ℕ) → seek-lts.Need-sub-passed (
+  is-free-reads.Asked,
+  is-free-reads.Learnt,
+  passed-reads.Asked,
+  passed-reads.Learnt,
+  seek-below t,
+  seek.Post,
+) (seek-at t) seek.Post
+seek-sub-passed t c = search needs
+
+-- src/lib.rt:186:39
+seek-mul-passed : (t : ℕ) → seek-lts.Need-mul-passed (
+  is-free-reads.Asked,
+  is-free-reads.Learnt,
+  passed-reads.Asked,
+  passed-reads.Learnt,
+  seek-below t,
+  seek.Post,
+) (seek-at t) seek.Post
+seek-mul-passed t c = let s = block-few _ _ _ (c .before .before .pre .1 .1 .1) in omega arith
+
+-- src/lib.rt:186:8
+seek-passed-requires : (t : ℕ) → seek-lts.Need-passed-requires (
+  is-free-reads.Asked,
+  is-free-reads.Learnt,
+  passed-reads.Asked,
+  passed-reads.Learnt,
+  seek-below t,
+  seek.Post,
+) (seek-at t) seek.Post
+seek-passed-requires t c κs = search (needs, half-left)
+
+-- src/lib.rt:187:28
+seek-sub-seek : (t : ℕ) → seek-lts.Need-sub-seek (
+  is-free-reads.Asked,
+  is-free-reads.Learnt,
+  passed-reads.Asked,
+  passed-reads.Learnt,
+  seek-below t,
+  seek.Post,
+) (seek-at t) seek.Post
+seek-sub-seek t c = search needs
+
+-- src/lib.rt:187:45
+seek-mul-seek : (t : ℕ) → seek-lts.Need-mul-seek (
+  is-free-reads.Asked,
+  is-free-reads.Learnt,
+  passed-reads.Asked,
+  passed-reads.Learnt,
+  seek-below t,
+  seek.Post,
+) (seek-at t) seek.Post
+seek-mul-seek t c = let s = block-few _ _ _ (c .before .before .before .before .pre .1 .1 .1) in omega arith
+
+-- src/lib.rt:187:45
+seek-add-seek : (t : ℕ) → seek-lts.Need-add-seek (
+  is-free-reads.Asked,
+  is-free-reads.Learnt,
+  passed-reads.Asked,
+  passed-reads.Learnt,
+  seek-below t,
+  seek.Post,
+) (seek-at t) seek.Post
+seek-add-seek t c = let s = block-few _ _ _ (c .before .before .before .before .pre .1 .1 .1) in omega arith
+
+-- src/lib.rt:187:9
+seek-seek-requires : (t : ℕ) → seek-lts.Need-seek-requires (
+  is-free-reads.Asked,
+  is-free-reads.Learnt,
+  passed-reads.Asked,
+  passed-reads.Learnt,
+  seek-below t,
+  seek.Post,
+) (seek-at t) seek.Post
+seek-seek-requires t c κs = search (needs, half-right, right-reached)
+
+-- src/lib.rt:187:9
+seek-returns-3 : (t : ℕ) → seek-lts.Need-returns-3 (
+  is-free-reads.Asked,
+  is-free-reads.Learnt,
+  passed-reads.Asked,
+  passed-reads.Learnt,
+  seek-below t,
+  seek.Post,
+) (seek-at t) seek.Post
+seek-returns-3 t c = search (needs, right-only)
+
+-- src/lib.rt:189:23
+seek-sub-seek-2 : (t : ℕ) → seek-lts.Need-sub-seek-2 (
+  is-free-reads.Asked,
+  is-free-reads.Learnt,
+  passed-reads.Asked,
+  passed-reads.Learnt,
+  seek-below t,
+  seek.Post,
+) (seek-at t) seek.Post
+seek-sub-seek-2 t c = search needs
+
+-- src/lib.rt:189:40
+seek-mul-seek-2 : (t : ℕ) → seek-lts.Need-mul-seek-2 (
+  is-free-reads.Asked,
+  is-free-reads.Learnt,
+  passed-reads.Asked,
+  passed-reads.Learnt,
+  seek-below t,
+  seek.Post,
+) (seek-at t) seek.Post
+seek-mul-seek-2 t c = let s = block-few _ _ _ (c .before .before .before .before .pre .1 .1 .1) in omega arith
+
+-- src/lib.rt:189:11
+seek-seek-requires-2 : (t : ℕ) → seek-lts.Need-seek-requires-2 (
+  is-free-reads.Asked,
+  is-free-reads.Learnt,
+  passed-reads.Asked,
+  passed-reads.Learnt,
+  seek-below t,
+  seek.Post,
+) (seek-at t) seek.Post
+seek-seek-requires-2 t c κs = search (needs, half-left, left-reached)
+
+-- src/lib.rt:190:19
+seek-enum-known-i : (t : ℕ) → seek-lts.Need-enum-known-i (
+  is-free-reads.Asked,
+  is-free-reads.Learnt,
+  passed-reads.Asked,
+  passed-reads.Learnt,
+  seek-below t,
+  seek.Post,
+) (seek-at t) seek.Post
+seek-enum-known-i t c = search needs
+
+-- src/lib.rt:191:39
+seek-enum-told : (t : ℕ) → seek-lts.Need-enum-told (
+  is-free-reads.Asked,
+  is-free-reads.Learnt,
+  passed-reads.Asked,
+  passed-reads.Learnt,
+  seek-below t,
+  seek.Post,
+) (seek-at t) seek.Post
+seek-enum-told t c = search needs
+
+-- src/lib.rt:191:39
+seek-sub-seek-3 : (t : ℕ) → seek-lts.Need-sub-seek-3 (
+  is-free-reads.Asked,
+  is-free-reads.Learnt,
+  passed-reads.Asked,
+  passed-reads.Learnt,
+  seek-below t,
+  seek.Post,
+) (seek-at t) seek.Post
+seek-sub-seek-3 t c = search needs
+
+-- src/lib.rt:191:56
+seek-mul-seek-3 : (t : ℕ) → seek-lts.Need-mul-seek-3 (
+  is-free-reads.Asked,
+  is-free-reads.Learnt,
+  passed-reads.Asked,
+  passed-reads.Learnt,
+  seek-below t,
+  seek.Post,
+) (seek-at t) seek.Post
+seek-mul-seek-3 t c = let s = block-few _ _ _ (c .before .before .before .before .before .before .before .pre .1 .1 .1) in omega arith
+
+-- src/lib.rt:191:56
+seek-add-seek-2 : (t : ℕ) → seek-lts.Need-add-seek-2 (
+  is-free-reads.Asked,
+  is-free-reads.Learnt,
+  passed-reads.Asked,
+  passed-reads.Learnt,
+  seek-below t,
+  seek.Post,
+) (seek-at t) seek.Post
+seek-add-seek-2 t c = let s = block-few _ _ _ (c .before .before .before .before .before .before .before .pre .1 .1 .1) in omega arith
+
+-- src/lib.rt:191:27
+seek-seek-requires-3 : (t : ℕ) → seek-lts.Need-seek-requires-3 (
+  is-free-reads.Asked,
+  is-free-reads.Learnt,
+  passed-reads.Asked,
+  passed-reads.Learnt,
+  seek-below t,
+  seek.Post,
+) (seek-at t) seek.Post
+seek-seek-requires-3 t c κs = search (needs, half-right, right-reached)
+
+-- src/lib.rt:176:1
+seek-returns-4 : (t : ℕ) → seek-lts.Need-returns-4 (
+  is-free-reads.Asked,
+  is-free-reads.Learnt,
+  passed-reads.Asked,
+  passed-reads.Learnt,
+  seek-below t,
+  seek.Post,
+) (seek-at t) seek.Post
+seek-returns-4 t c = search (needs, from-left)
+
+-- src/lib.rt:176:1
+seek-returns-5 : (t : ℕ) → seek-lts.Need-returns-5 (
+  is-free-reads.Asked,
+  is-free-reads.Learnt,
+  passed-reads.Asked,
+  passed-reads.Learnt,
+  seek-below t,
+  seek.Post,
+) (seek-at t) seek.Post
+seek-returns-5 t c = search (needs, from-right)
+
+pub +seek-spec : {M : Type 1} → statement M
++seek-spec = close μ-seek λ t. seek-lts.spec (
+  is-free-reads.Asked,
+  is-free-reads.Learnt,
+  passed-reads.Asked,
+  passed-reads.Learnt,
+  seek-below t,
+  seek.Post,
+)
+    (seek-at t)
+    seek.Post
+    (seek-is-free-requires t)
+    (seek-returns t)
+    (seek-returns-2 t)
+    (seek-sub-passed t)
+    (seek-mul-passed t)
+    (seek-passed-requires t)
+    (seek-sub-seek t)
+    (seek-mul-seek t)
+    (seek-add-seek t)
+    (seek-seek-requires t)
+    (seek-returns-3 t)
+    (seek-sub-seek-2 t)
+    (seek-mul-seek-2 t)
+    (seek-seek-requires-2 t)
+    (seek-enum-known-i t)
+    (seek-enum-told t)
+    (seek-sub-seek-3 t)
+    (seek-mul-seek-3 t)
+    (seek-add-seek-2 t)
+    (seek-seek-requires-3 t)
+    (seek-returns-4 t)
+    (seek-returns-5 t)

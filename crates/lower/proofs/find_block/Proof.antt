@@ -1,0 +1,117 @@
+use native.Mathlib.Omega.{arith}
+use mathlib.Core.Path.{sym, _∙_}
+use Rattle.lower_laws.specs.Lower.{has-block, frame-block}
+use Rattle.rules.specs.Lower.{lowerFind}
+use borrow.Author.Needs.{needs}
+use Rattle.lower.proofs.find_block.Statement.{statement}
+use Rattle.lower.proofs.find_block.Tie as tie
+use Rattle.lower.proofs.find_block.Reads as reads
+use Rattle.lower.proofs.find_block.Lts as lts
+use Rattle.lower.proofs.find.Reads as find-reads
+use Rattle.lower.proofs.has_tree.Reads as has-tree-reads
+use Rattle.lower.proofs.is_free.Reads as is-free-reads
+
+-- src/lib.rt:227:32
+enum-told : tie.Need-enum-told
+enum-told c = search needs
+
+-- src/lib.rt:227:16
+has-tree-requires : tie.Need-has-tree-requires
+has-tree-requires c κs = search needs
+
+-- src/lib.rt:228:17
+find-requires : tie.Need-find-requires
+find-requires c κs = (search needs, has-block 11 _ _ (omega arith) (omega arith) (sym (c .before .has-tree .ensures) ∙ c .if1 .taken))
+
+-- src/lib.rt:228:17
+returns : tie.Need-returns
+unfolding lowerFind
+returns c =
+    rw (
+      c .before .before .before .enum-told .given .1,
+      ← c .before .before .has-tree .ensures,
+      c .before .if1 .taken,
+      ← c .find .ensures,
+    )
+
+-- src/lib.rt:232:21
+enum-known-name : tie.Need-enum-known-name
+enum-known-name c = search needs
+
+-- src/lib.rt:233:16
+has-tree-requires-2 : tie.Need-has-tree-requires-2
+has-tree-requires-2 c κs = search needs
+
+-- src/lib.rt:234:42
+shr-is-free : tie.Need-shr-is-free
+shr-is-free c = search needs
+
+-- src/lib.rt:234:20
+is-free-requires : tie.Need-is-free-requires
+is-free-requires c κs = frame-block 11 _ _ (omega arith) (omega arith) (c .before .before .before .before .before .before .pre) _ (sym (c .before .has-tree2 .ensures) ∙ c .if2 .taken)
+
+-- src/lib.rt:235:38
+shr-t13 : tie.Need-shr-t13
+shr-t13 c = search needs
+
+-- src/lib.rt:235:21
+returns-2 : tie.Need-returns-2
+unfolding lowerFind
+returns-2 c =
+    rw (
+      c .before .before .before .before .before .name .given .1,
+      ← c .before .before .before .has-tree2 .ensures,
+      c .before .before .if2 .taken,
+      ← c .before .is-free .ensures,
+      c .if3 .taken,
+    )
+
+-- src/lib.rt:237:17
+returns-3 : tie.Need-returns-3
+unfolding lowerFind
+returns-3 c =
+    rw (
+      c .before .before .before .before .before .name .given .1,
+      ← c .before .before .before .has-tree2 .ensures,
+      c .before .before .if2 .taken,
+      ← c .before .is-free .ensures,
+      c .if3 .left,
+    )
+
+-- src/lib.rt:221:1
+returns-4 : tie.Need-returns-4
+unfolding lowerFind
+returns-4 c =
+    rw (
+      c .before .before .enum-told .given .1,
+      ← c .before .has-tree .ensures,
+      c .if1 .left,
+    )
+
+-- src/lib.rt:221:1
+returns-5 : tie.Need-returns-5
+unfolding lowerFind
+returns-5 c =
+    rw (
+      c .before .before .before .name .given .1,
+      ← c .before .has-tree2 .ensures,
+      c .if2 .left,
+    )
+
+pub find-block-spec : {M : Type 1} → statement M
+find-block-spec =
+    tie.close
+    (tie.spec
+    enum-told
+    has-tree-requires
+    find-requires
+    returns
+    enum-known-name
+    has-tree-requires-2
+    shr-is-free
+    is-free-requires
+    shr-t13
+    returns-2
+    returns-3
+    returns-4
+    returns-5)

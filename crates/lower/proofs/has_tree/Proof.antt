@@ -1,0 +1,21 @@
+use Rattle.rules.specs.Lower.{hasTree}
+use borrow.Author.Tests.{le-leb, lt-leb}
+use Rattle.lower.proofs.has_tree.Statement.{statement}
+use Rattle.lower.proofs.has_tree.Tie as tie
+use Rattle.lower.proofs.has_tree.Reads as reads
+use Rattle.lower.proofs.has_tree.Lts as lts
+
+-- src/lib.rt:249:9
+returns : tie.Need-returns
+unfolding hasTree
+returns c =
+    rw (le-leb _ _ (c .if1 .taken))
+
+-- src/lib.rt:245:1
+returns-2 : tie.Need-returns-2
+unfolding hasTree
+returns-2 c =
+    rw (lt-leb _ _ (c .if1 .left))
+
+pub has-tree-spec : {M : Type 1} → statement M
+has-tree-spec = tie.close (tie.spec returns returns-2)

@@ -1,0 +1,19 @@
+-- Laws of the bitmap, over the definitions of `rules`: none of them has to be believed.
+pub mod Cases
+pub mod Power
+pub mod Sum
+pub mod Block
+pub mod Held
+pub mod Ones
+pub mod Run
+pub mod Past
+pub mod Tests
+pub mod Field
+pub mod Mark
+pub mod MarkTests
+pub mod First
+pub mod Seek
+pub mod Clear
+pub mod Search
+pub mod Lower
+pub mod Below
