@@ -10,7 +10,7 @@ ghost use mathlib.Core.List.{[]};
 ghost use Prim.Native.Nat.{_+_, _^_, _<_, _≤_};
 ghost use Rattle.rules.specs.Words.{config};
 ghost use Rattle.ways.specs.State.{st, ended};
-ghost use Rattle.ways.specs.Walk.{visit, walk, tryList, searchBest};
+ghost use Rattle.ways.specs.Walk.{access, visit, walk, tryList, searchBest};
 ghost use Rattle.ways.specs.Fits.{Fits};
 ghost use Rattle.best.specs.List.{listOf};
 ghost use Rattle.walk.specs.Seen.{sighted};
@@ -23,7 +23,7 @@ pub fn visit(
     locals: &mut [u64],
     bits: &mut [u64],
     q: Request,
-    walk: Walk,
+    w: Walk,
     j: usize,
     m: usize,
     t: usize,
@@ -33,31 +33,31 @@ pub fn visit(
 ) -> Seen
     requires { ⌜ Fits h q × ((m ≤ 8) × ((t < 2 ^ 32) × ((looks < 2 ^ 31) × (tries < 2 ^ 31)))) ⌝ }
     ensures { λ r. ⌜ (sighted m r (now (trees .exit)) (now (locals .exit)) (now (bits .exit))
-      ≡ visit (config h (now (table .entry))) q walk j m t (listOf m best) (st (now (trees .entry)) (now (locals .entry)) (now (bits .entry)) looks tries))
+      ≡ visit (config h (now (table .entry))) q w j m t (listOf m best) (st (now (trees .entry)) (now (locals .entry)) (now (bits .entry)) looks tries))
       × ((r .looks ≤ looks + 1) × (r .tries ≤ tries + 1)) ⌝ }
 {
     let e = trees::load(trees, t);
-    let r = best::rate(h, table, q, walk, e);
+    let r = best::rate(h, table, q, w, e);
     if r == 258 {
-        let w = steal::access(
+        let a = access(
             h,
             table,
             trees,
             locals,
             bits,
             q,
-            walk,
+            w,
             j,
             t,
             looks + 1,
             tries,
         );
-        let g = w.got;
+        let g = a.got;
         return Seen {
             got: g,
             best: best,
-            looks: w.looks,
-            tries: w.tries,
+            looks: a.looks,
+            tries: a.tries,
         };
     }
     if r == 0 {
@@ -85,7 +85,7 @@ pub fn walk_trees(
     locals: &mut [u64],
     bits: &mut [u64],
     q: Request,
-    walk: Walk,
+    w: Walk,
     j: usize,
     m: usize,
     n: usize,
@@ -97,7 +97,7 @@ pub fn walk_trees(
 ) -> Seen
     requires { ⌜ Fits h q × ((m ≤ 8) × (((0 < n) × (n ≤ 1024)) × ((start < 2 ^ 44) × ((last ≤ 1024) × ((looks < 2 ^ 30) × (tries < 2 ^ 30)))))) ⌝ }
     ensures { λ r. ⌜ (sighted m r (now (trees .exit)) (now (locals .exit)) (now (bits .exit))
-      ≡ walk (config h (now (table .entry))) q walk j m n start first last [] (st (now (trees .entry)) (now (locals .entry)) (now (bits .entry)) looks tries))
+      ≡ walk (config h (now (table .entry))) q w j m n start first last [] (st (now (trees .entry)) (now (locals .entry)) (now (bits .entry)) looks tries))
       × ((r .looks ≤ looks + last) × (r .tries ≤ tries + last)) ⌝ }
 {
     let mut list = [0u64; 8];
@@ -107,7 +107,7 @@ pub fn walk_trees(
     while i < last {
         let t = best::place(n, start, i);
         let s = visit(
-            h, table, trees, locals, bits, q, walk, j, m, t, list, seen, asked,
+            h, table, trees, locals, bits, q, w, j, m, t, list, seen, asked,
         );
         let g = s.got;
         if best::ends(g) {
@@ -135,7 +135,7 @@ pub fn try_list(
     locals: &mut [u64],
     bits: &mut [u64],
     q: Request,
-    walk: Walk,
+    w: Walk,
     j: usize,
     m: usize,
     best: [u64; 8],
@@ -144,7 +144,7 @@ pub fn try_list(
 ) -> Routed
     requires { ⌜ Fits h q × ((m ≤ 8) × ((looks < 2 ^ 31) × (tries < 2 ^ 31))) ⌝ }
     ensures { λ r. ⌜ (ended r (now (trees .exit)) (now (locals .exit)) (now (bits .exit))
-      ≡ tryList (config h (now (table .entry))) q walk j (listOf m best) (st (now (trees .entry)) (now (locals .entry)) (now (bits .entry)) looks tries))
+      ≡ tryList (config h (now (table .entry))) q w j (listOf m best) (st (now (trees .entry)) (now (locals .entry)) (now (bits .entry)) looks tries))
       × ((r .looks ≤ looks) × (r .tries ≤ tries + m)) ⌝ }
 {
     let mut seen = looks;
@@ -160,13 +160,13 @@ pub fn try_list(
             };
         }
         let t = (x % 0x1_0000_0000) as usize;
-        let w = steal::access(h, table, trees, locals, bits, q, walk, j, t, seen, asked);
-        let g = w.got;
+        let a = access(h, table, trees, locals, bits, q, w, j, t, seen, asked);
+        let g = a.got;
         if best::ends(g) {
-            return w;
+            return a;
         }
-        seen = w.looks;
-        asked = w.tries;
+        seen = a.looks;
+        asked = a.tries;
         k += 1;
     }
     Routed {
@@ -184,7 +184,7 @@ pub fn search_best(
     locals: &mut [u64],
     bits: &mut [u64],
     q: Request,
-    walk: Walk,
+    w: Walk,
     j: usize,
     m: usize,
     n: usize,
@@ -196,11 +196,11 @@ pub fn search_best(
 ) -> Routed
     requires { ⌜ Fits h q × ((m ≤ 8) × (((0 < n) × (n ≤ 1024)) × ((start < 2 ^ 44) × ((last ≤ 1024) × ((looks < 2 ^ 30) × (tries < 2 ^ 30)))))) ⌝ }
     ensures { λ r. ⌜ (ended r (now (trees .exit)) (now (locals .exit)) (now (bits .exit))
-      ≡ searchBest (config h (now (table .entry))) q walk j m n start first last (st (now (trees .entry)) (now (locals .entry)) (now (bits .entry)) looks tries))
+      ≡ searchBest (config h (now (table .entry))) q w j m n start first last (st (now (trees .entry)) (now (locals .entry)) (now (bits .entry)) looks tries))
       × ((r .looks ≤ looks + last) × (r .tries ≤ tries + (last + m))) ⌝ }
 {
     let s = walk_trees(
-        h, table, trees, locals, bits, q, walk, j, m, n, start, first, last, looks, tries,
+        h, table, trees, locals, bits, q, w, j, m, n, start, first, last, looks, tries,
     );
     let g = s.got;
     if best::ends(g) {
@@ -211,5 +211,32 @@ pub fn search_best(
         };
     }
     let list = s.best;
-    try_list(h, table, trees, locals, bits, q, walk, j, m, list, s.looks, s.tries)
+    try_list(h, table, trees, locals, bits, q, w, j, m, list, s.looks, s.tries)
+}
+
+// STUB
+// A tree that a walk has found is tried.
+pub fn access(
+    h: Header,
+    table: &[u32; 64],
+    trees: &mut [u32],
+    locals: &mut [u64],
+    bits: &mut [u64],
+    q: Request,
+    walk: Walk,
+    j: usize,
+    t: usize,
+    looks: usize,
+    tries: usize,
+) -> Routed
+    requires { ⌜ Fits h q × ((t < 2 ^ 53) × ((looks < 2 ^ 32) × (tries < 2 ^ 32))) ⌝ }
+    ensures { λ r. ⌜ (ended r (now (trees .exit)) (now (locals .exit)) (now (bits .exit))
+      ≡ access (config h (now (table .entry))) q walk j t (st (now (trees .entry)) (now (locals .entry)) (now (bits .entry)) looks tries))
+      × ((r .looks ≤ looks) × (r .tries ≤ tries + 1)) ⌝ }
+{
+    Routed {
+        got: Got::Missed,
+        looks: looks,
+        tries: tries,
+    }
 }

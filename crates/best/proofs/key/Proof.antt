@@ -1,3 +1,4 @@
+use native.Mathlib.Omega.{arith}
 use borrow.Author.Tests.{eq-eqb, ne-eqb}
 use borrow.Author.Needs.{needs}
 use Rattle.best.proofs.key.Statement.{statement}
@@ -25,7 +26,7 @@ returns c =
 -- src/lib.rt:115:1
 returns-2 : tie.Need-returns-2
 returns-2 c =
-    (rw (ne-eqb _ _ (c .if1 .left)), search needs)
+    (rw (ne-eqb _ _ (c .if1 .left)) (omega arith), search needs)
 
 pub key-spec : {M : Type 1} → statement M
 key-spec = tie.close (tie.spec mul-result add-result mul-result-2 returns returns-2)
