@@ -41,17 +41,21 @@ pub from-end : (k m : ℕ) (ws : List ℕ) → m ≤ k → listFrom k m ws ≡ [
 unfolding listFrom listOf
 from-end k m ws h = let e : m - k ≡ 0 = omega arith in rw e
 
-pub from-none : (k m : ℕ) (ws : List ℕ) → k < m → k < length ws → getD ws k 0 ≡ 0 → listFrom k m ws ≡ []
+pub from-none : (k m : ℕ) (ws : List ℕ) → k < m → m ≤ length ws → getD ws k 0 ≡ 0 → listFrom k m ws ≡ []
 unfolding listFrom listOf
-from-none k m ws h l z = let e : m - k ≡ suc (m - (k + 1)) = omega arith in rw (e, drop-cons ws k 0 l, z)
+from-none k m ws h l z =
+    let e : m - k ≡ suc (m - (k + 1)) = omega arith in
+    let b : k < length ws = omega arith in
+    rw (e, drop-cons ws k 0 b, z)
 
 -- else the tree at that place is the next
-pub from-more : (k m : ℕ) (ws : List ℕ) → k < m → k < length ws → (getD ws k 0 ≡ 0 → ⊥)
+pub from-more : (k m : ℕ) (ws : List ℕ) → k < m → m ≤ length ws → (getD ws k 0 ≡ 0 → ⊥)
     → listFrom k m ws ≡ rated (getD ws k 0 / 2 ^ 32) (getD ws k 0 % 2 ^ 32) ∷ listFrom (k + 1) m ws
 unfolding listFrom listOf
 from-more k m ws h l z =
     let e : m - k ≡ suc (m - (k + 1)) = omega arith in
-    rw (e, add-one k, drop-cons ws k 0 l) (go (getD ws k 0) (m - suc k) (drop (suc k) ws) z)
+    let b : k < length ws = omega arith in
+    rw (e, add-one k, drop-cons ws k 0 b) (go (getD ws k 0) (m - suc k) (drop (suc k) ws) z)
   where
     go : (w d : ℕ) (xs : List ℕ) → (w ≡ 0 → ⊥) → listOf (suc d) (w ∷ xs) ≡ rated (w / 2 ^ 32) (w % 2 ^ 32) ∷ listOf d xs
     go zero d xs z = absurd (z refl)
