@@ -159,6 +159,12 @@ rows! {
     FramesOdd "get with a last tree that is not whole",
     Frames2048 "get with F = 2,048",
     Frames2049 "get with F = 2,049",
+    Classes1 "get with 1 class",
+    Classes2 "get with 2 classes",
+    Classes3 "get with 3 to 7 classes",
+    Classes8 "get with 8 classes",
+    NoLocals "get of a class without locals",
+    Locals32 "get of a class with 32 locals",
     Order0 "get to the routes, order 0",
     Order1 "get to the routes, order 1",
     Order2 "get to the routes, order 2",
@@ -173,23 +179,6 @@ rows! {
     Order11 "get to the routes, order 11",
 }
 
-/// Rows that the oracle cannot answer: they stand in the second pair of files alone.
-pub fn beyond(row: Row) -> bool {
-    let text = TEXTS[row as usize];
-    text.starts_with("Broken")
-        || text.ends_with("Broken")
-        || matches!(
-            row,
-            Row::GetBoundsWrap
-                | Row::GetClassAbove
-                | Row::GetLocal
-                | Row::GetLocalNone
-                | Row::FarNoLocals
-                | Row::PutLocalRefused
-                | Row::StatsRows
-        )
-}
-
 #[derive(Clone)]
 pub struct Coverage {
     pub counts: Vec<u64>,
@@ -198,10 +187,11 @@ impl Coverage {
     pub fn new() -> Self {
         Self { counts: vec![0; TEXTS.len()] }
     }
-    pub fn print(&self) {
-        println!("{:>12}  reached", "times");
+    pub fn table(&self) -> String {
+        let mut table = format!("{:>12}  reached\n", "times");
         for (text, count) in TEXTS.iter().zip(&self.counts) {
-            println!("{count:>12}  {text}");
+            table += &format!("{count:>12}  {text}\n");
         }
+        table
     }
 }

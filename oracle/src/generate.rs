@@ -37,6 +37,8 @@ pub struct Options {
     pub beyond: bool,
     /// Damage in one call of this many, where `beyond`.
     pub damage: u64,
+    /// Of a thousand calls so many have arguments meant to be refused.
+    pub refused: u64,
     /// Short sequences and few words a state, for lists kept as text.
     pub brief: bool,
 }
@@ -137,8 +139,8 @@ impl<S: Sink> Scenario<'_, S> {
         } else {
             loop {
                 classes = [None; 8];
-                let many = if r.chance(70) { 1 + r.below(4) } else { 1 + r.below(8) };
-                for _ in 0..many {
+                let many = if r.chance(60) { 1 + r.below(4) } else { 1 + r.below(8) } as usize;
+                while classes.iter().flatten().count() < many {
                     classes[r.below(8) as usize] = Some(count(r));
                 }
                 let on: Vec<usize> = (0..8).filter(|&c| classes[c].is_some()).collect();
@@ -194,10 +196,8 @@ impl<S: Sink> Scenario<'_, S> {
     fn wrong_start(&mut self) {
         let s = self.sink.state();
         let (frames, default, classes, table) = (s.frames, s.default, s.classes, s.table);
-        let d = self.damage_header();
-        for c in &d {
-            self.sink.send(*c);
-        }
+        let c = self.damage_header();
+        self.sink.send(c);
         let free = self.r.chance(70);
         self.sink.send(Command::Start(free));
         self.repair_header(frames, default, classes, table);
@@ -216,20 +216,20 @@ impl<S: Sink> Scenario<'_, S> {
         }
     }
 
-    fn damage_header(&mut self) -> Vec<Command> {
+    /// A set-up line that makes the header or table wrong, or by chance another right one.
+    fn damage_header(&mut self) -> Command {
         let s = self.sink.state();
         let (t, l, b) = s.lent();
-        let (d, classes, table) = (s.default as usize, s.classes, s.table);
-        let frames = s.frames;
+        let (frames, d, table) = (s.frames, s.default as usize, s.table);
         let off = |r: &mut Random, v: usize, most: usize| Some(if r.chance(50) { v.saturating_sub(1) } else { (v + 1).min(most) });
         let r = &mut self.r;
         let c = r.pick(&self.classes);
         let e = r.pick(&self.classes);
-        vec![match r.below(14) {
+        match r.below(14) {
             0 => Command::Frames(r.pick(&[0, 2_097_152, 2_097_153, u64::MAX, 1 << 40, frames + 2048, frames + 1])),
             1 => Command::Class(c, r.pick(&[Some(33), Some(200), Some(64), None])),
             2 => Command::Class(r.below(8) as usize, r.pick(&[Some(0), Some(1), Some(32)])),
-            3 => Command::Default(r.pick(&[8, 200, 7, 6, 5, 0, 1, 2, 255 % 201])),
+            3 => Command::Default(r.pick(&[8, 200, 7, 6, 5, 0, 1, 2, 54])),
             4 => Command::Default(r.pick(&self.classes) as u8),
             5 => Command::Lend([off(r, t, 200), None, None]),
             6 => Command::Lend([None, off(r, l, 256), None]),
@@ -250,10 +250,9 @@ impl<S: Sink> Scenario<'_, S> {
             12 => Command::Pair(c, d, Pair { kind: r.below(4) as u8, ..Pair::default() }),
             _ => {
                 let kind = if table[c][e].kind == 2 { 1 } else { 2 };
-                let _ = classes;
                 Command::Pair(c, e, Pair { kind, ..Pair::default() })
             }
-        }]
+        }
     }
 
     /// A state that passes the standing rules, whether or not play reaches it.
@@ -359,6 +358,7 @@ impl<S: Sink> Scenario<'_, S> {
 
     fn calls(&mut self) {
         let most = match (self.o.brief, self.n) {
+            (true, _) if self.o.damage < 10 => 5 + self.r.below(40),
             (true, 0..40) => 20 + self.r.below(100),
             (true, _) => 10 + self.r.below(40),
             (false, 0..9) => 30 + self.r.below(500),
@@ -421,7 +421,7 @@ impl<S: Sink> Scenario<'_, S> {
         match roll {
             0..12 => drop(self.sink.send(Command::Stats)),
             12..20 => drop(self.sink.send(Command::Drain)),
-            20..45 => self.refusal(),
+            20.. if roll < 20 + self.o.refused => self.refusal(),
             _ if self.r.chance(self.gets) => self.get(),
             _ => self.put(),
         }
@@ -531,9 +531,8 @@ impl<S: Sink> Scenario<'_, S> {
         let mut back = Vec::new();
         match kind {
             0..2 => {
-                for c in self.damage_header() {
-                    self.sink.send(c);
-                }
+                let c = self.damage_header();
+                self.sink.send(c);
             }
             2 => drop(self.sink.send(Command::Rows(self.r.pick(&[0, 7, 9, 16])))),
             3..6 => {
@@ -608,7 +607,9 @@ impl<S: Sink> Scenario<'_, S> {
             }
         }
         self.repair_header(frames, default, classes, table);
-        self.begin_if_broken();
+        if !refused {
+            self.begin_if_broken();
+        }
     }
 
     /// After a header that was sound in another way the words may not fit the old one.

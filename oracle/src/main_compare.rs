@@ -1,4 +1,4 @@
-//! `compare CALLS SEED`: generated calls through the oracle and the second model, compared after every call.
+//! `compare CALLS SEED [MISREADING]`: generated calls through the oracle and the second model, compared after every call.
 
 #![allow(dead_code)]
 
@@ -30,16 +30,17 @@ struct Both {
     outside: u64,
     seed: u64,
     log: Vec<Command>,
+    /// A set-up line since the last call on a sound state.
+    set_up: bool,
+    /// Most tries above looks of gets without a name, most tries of named gets, gets with the most looks.
+    tries_above: i64,
+    tries_named: u64,
+    most_looks: u64,
 }
 
 /// Why the oracle has no answer, where the rules give this one.
 fn why_outside(c: &Command, a: &Answer, no_locals: bool) -> bool {
-    let number = match a {
-        Answer::Get(Said::Is(g)) => g.number,
-        Answer::Put(Said::Is(n)) | Answer::Drain(Said::Is(n)) => *n,
-        Answer::Stats(Said::Is(s)) => s.number,
-        _ => return false,
-    };
+    let Some(number) = number(a) else { return false };
     let (Command::Get(ask) | Command::Put(ask)) = c else { return number == 1 || number == 11 };
     match number {
         1 | 6 => true,
@@ -49,7 +50,35 @@ fn why_outside(c: &Command, a: &Answer, no_locals: bool) -> bool {
     }
 }
 
+fn number(a: &Answer) -> Option<u8> {
+    match a {
+        Answer::Get(Said::Is(g)) => Some(g.number),
+        Answer::Put(Said::Is(n)) | Answer::Drain(Said::Is(n)) | Answer::Start(Said::Is(n)) => Some(*n),
+        Answer::Stats(Said::Is(s)) => Some(s.number),
+        _ => None,
+    }
+}
+
 impl Both {
+    /// Looks and tries are within document 01's bounds, and a call leaves a sound state sound.
+    fn bounds(&mut self, c: &Command, a: &Answer) -> bool {
+        let broken = number(a) == Some(1);
+        let kept = self.set_up || !broken;
+        if !broken && !matches!(c, Command::Start(_)) || number(a) == Some(0) {
+            self.set_up = false;
+        }
+        let (Command::Get(ask), Answer::Get(Said::Is(g))) = (c, a) else { return kept };
+        if ask.frame.is_some() {
+            self.tries_named = self.tries_named.max(g.tries);
+            return kept && g.looks == 0 && g.tries <= 4;
+        }
+        let n = self.of_model.lent().0 as u64;
+        let most = n + (n / 16).max(4) - 1;
+        self.tries_above = self.tries_above.max(g.tries as i64 - g.looks as i64);
+        self.most_looks += (g.looks == most) as u64;
+        kept && g.looks <= most && g.tries <= g.looks + 3
+    }
+
     fn differ(&self, c: &Command, by_model: &Answer, by_oracle: &Answer) -> ! {
         println!("difference: seed {} call {}: {c}", self.seed, self.calls);
         print!("model:  {by_model}oracle: {by_oracle}");
@@ -71,9 +100,14 @@ impl Sink for Both {
         let by_model = perform(&c, &mut self.of_model, &mut self.model);
         let by_oracle = perform(&c, &mut self.of_oracle, &mut self.oracle);
         if by_model == Answer::Nothing {
+            self.set_up = true;
             return by_model;
         }
         self.calls += 1;
+        if !self.bounds(&c, &by_model) {
+            println!("a bound of looks or tries, or a standing rule after a call, does not hold");
+            self.differ(&c, &by_model, &by_oracle);
+        }
         let no_locals = self.model.coverage.counts[Row::FarNoLocals as usize] > steals;
         let outside = matches!(
             by_oracle,
@@ -94,13 +128,17 @@ impl Sink for Both {
 
 fn main() {
     let args: Vec<u64> = std::env::args().skip(1).filter_map(|a| a.parse().ok()).collect();
-    let [calls, seed] = args[..] else {
-        eprintln!("compare CALLS SEED");
-        std::process::exit(1)
+    let (calls, seed, misreading) = match args[..] {
+        [calls, seed] => (calls, seed, 0),
+        [calls, seed, misreading] => (calls, seed, misreading as u32),
+        _ => {
+            eprintln!("compare CALLS SEED [MISREADING]");
+            std::process::exit(1)
+        }
     };
     let begun = Instant::now();
     let mut both = Both {
-        model: Model::new(0),
+        model: Model::new(misreading),
         oracle: Oracle::new(),
         of_model: State::new(),
         of_oracle: State::new(),
@@ -108,6 +146,10 @@ fn main() {
         outside: 0,
         seed: 0,
         log: Vec::new(),
+        set_up: true,
+        tries_above: i64::MIN,
+        tries_named: 0,
+        most_looks: 0,
     };
     let mut sequences = 0;
     while both.calls < calls {
@@ -115,15 +157,19 @@ fn main() {
         both.log.clear();
         both.log_header();
         let own = both.seed;
-        scenario(&mut both, own, Options { beyond: true, damage: 60, brief: false });
+        scenario(&mut both, own, Options { beyond: true, damage: 60, refused: 25, brief: false });
         sequences += 1;
     }
-    both.model.coverage.print();
+    print!("{}", both.model.coverage.table());
     println!(
         "{} calls in {sequences} sequences from seed {seed}: no difference; {} outside the oracle's domain; {:.1} s",
         both.calls,
         both.outside,
         begun.elapsed().as_secs_f64()
+    );
+    println!(
+        "no name: tries at most looks + {}, {} gets with looks n + near - 1; named: tries at most {}",
+        both.tries_above, both.most_looks, both.tries_named
     );
     let unreached: Vec<&str> = coverage::ROWS
         .iter()

@@ -129,6 +129,10 @@ impl Model {
 
     // Policy table: what a start accepts.
 
+    pub fn accepts(&self, s: &State) -> bool {
+        self.refusal(s).is_none()
+    }
+
     /// None where header, table and lengths are accepted, else the part that is wrong.
     fn refusal(&self, s: &State) -> Option<Row> {
         if s.frames < 1 || s.frames > 2_097_152 {
@@ -1008,6 +1012,17 @@ impl Model {
         match s.frames {
             2048 => self.hit(Row::Frames2048),
             2049 => self.hit(Row::Frames2049),
+            _ => {}
+        }
+        self.hit(match s.classes.iter().flatten().count() {
+            1 => Row::Classes1,
+            2 => Row::Classes2,
+            3..8 => Row::Classes3,
+            _ => Row::Classes8,
+        });
+        match locals(s, ask.class as usize) {
+            0 => self.hit(Row::NoLocals),
+            32 => self.hit(Row::Locals32),
             _ => {}
         }
         self.coverage.counts[Row::Order0 as usize + ask.order as usize] += 1;

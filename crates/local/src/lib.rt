@@ -112,7 +112,7 @@ pub fn set_start(locals: &mut [u64], j: usize, row: usize)
 
 // Store a local: the answer is the one that stood there.
 pub fn swap(locals: &mut [u64], j: usize, new: Local) -> Local
-    ensures { λ r. ⌜ out r (now (locals .exit)) ≡ localSwap (now (locals .entry)) j new ⌝ }
+    ensures { λ r. ⌜ (out r (now (locals .exit)) ≡ localSwap (now (locals .entry)) j new) × (r .free < 2 ^ 19) ⌝ }
 {
     let old = load(locals, j);
     store(locals, j, words::local_word(new));
@@ -121,7 +121,7 @@ pub fn swap(locals: &mut [u64], j: usize, new: Local) -> Local
 
 // A local becomes absent: the answer is the one that stood there.
 pub fn clear(locals: &mut [u64], j: usize) -> Local
-    ensures { λ r. ⌜ out r (now (locals .exit)) ≡ localClear (now (locals .entry)) j ⌝ }
+    ensures { λ r. ⌜ (out r (now (locals .exit)) ≡ localClear (now (locals .entry)) j) × (r .free < 2 ^ 19) ⌝ }
 {
     let old = load(locals, j);
     store(locals, j, 0);

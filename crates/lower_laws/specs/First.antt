@@ -8,6 +8,7 @@ use native.Mathlib.Omega.{arith}
 use Rattle.rules.specs.Base.{pick, orFound, firstIn}
 use Rattle.rules.specs.declared.Found.{Found}
 use Rattle.rules.specs.declared.Found.the-variants.{At, Nothing}
+use Rattle.lower_laws.specs.Cases.{below-or}
 use Rattle.lower_laws.specs.Power.{pow-half, double}
 
 or-assoc : (x y z : Found) → orFound (orFound x y) z ≡ orFound x (orFound y z)
@@ -125,3 +126,32 @@ module _ (t : ℕ → Bool) where
       let z : o - w ≡ 0 = omega arith in
       let a : i * 1 ≡ i = omega arith in
       rw (z, a) (first-one i)
+
+  -- none passes before a part of the range in which c is found
+  pub first-skip : (a n b m c : ℕ) → a ≤ b → b + m ≤ a + n → ((i : ℕ) → a ≤ i → i < b → t i ≡ false) → firstIn t b m ≡ At c → firstIn t a n ≡ At c
+  first-skip a n b m c l h f e =
+      let s = first-sound b m c e in
+      first-at a n c (omega (arith, s .low)) (omega (arith, s .high)) (λ i x y. ⊎-elim (λ k. f i x k) (λ k. first-least b m c e i k y) (below-or i b)) (s .passed)
+
+-- two tests that agree on the range
+pub first-ext : (t u : ℕ → Bool) (a n : ℕ) → ((i : ℕ) → a ≤ i → i < a + n → t i ≡ u i) → firstIn t a n ≡ firstIn u a n
+unfolding firstIn
+first-ext t u a zero h = refl
+first-ext t u a (suc n) h =
+    ap₂ (λ (x : Found) (b : Bool). orFound x (pick b (At (a + n)) Nothing)) (first-ext t u a n (λ i l m. h i l (omega arith))) (h (a + n) (omega arith) (omega arith))
+
+-- the number, moved on by b
+abbrev pub movedBy : ℕ → Found → Found
+movedBy b (At i) = At (b + i)
+movedBy b Nothing = Nothing
+
+-- a range moved on
+pub first-shift : (t : ℕ → Bool) (b a n : ℕ) → firstIn t (b + a) n ≡ movedBy b (firstIn (λ i. t (b + i)) a n)
+unfolding firstIn
+first-shift t b a zero = refl
+first-shift t b a (suc n) = rw (first-shift t b a n, add-assoc b a n) (go (firstIn (λ i. t (b + i)) a n) (t (b + (a + n))))
+  where
+    go : (x : Found) (y : Bool) → orFound (movedBy b x) (pick y (At (b + (a + n))) Nothing) ≡ movedBy b (orFound x (pick y (At (a + n)) Nothing))
+    go (At i) y = refl
+    go Nothing true = refl
+    go Nothing false = refl

@@ -13,6 +13,8 @@ pub mod Mark
 pub mod MarkTests
 pub mod First
 pub mod Seek
+pub mod Word
+pub mod Open
 pub mod Clear
 pub mod Search
 pub mod Lower

@@ -3,7 +3,7 @@ use mathlib.Core.Path.{_≡_, refl, sym, ap, _∙_}
 use Prim.Native.Nat.{ℕ, zero, suc, _+_, _-_, _*_, _/_, _%_, _^_, _<_, _≤_}
 use native.Mathlib.Nat.{one-mul, mul-assoc, mul-add, add-mul, mul-le-mul-right, mod-lt, pow-suc}
 use native.Mathlib.Omega.{arith}
-use lib.Pow.{shl-exact, shr-shr, split, pow-pos, pow-mono, pow-add}
+use lib.Pow.{shl-exact, shl-shr, shr-shr, split, pow-pos, pow-mono, pow-add}
 use lib.Dec.{lit<}
 
 -- `1 << k` at 64 bits
@@ -92,3 +92,30 @@ in-tree z o f h = let a = among z o f h in inside z o (f / 2 ^ z) (f / 2 ^ o) h 
 -- 2^o for the orders that there are
 pub at-most : (o z : ℕ) → o ≤ z → (1 ≤ 2 ^ o) × (2 ^ o ≤ 2 ^ z)
 at-most o z h = (pow-pos o, pow-mono {i = o} {j = z} h)
+
+-- the block of order o that holds the first frame of a row
+pub row-tree : (o row : ℕ) → 6 ≤ o → row * 64 / 2 ^ o ≡ row / 2 ^ (o - 6)
+row-tree o row h =
+    let e : 6 + (o - 6) ≡ o = omega arith in
+    let a : row * 64 / 64 ≡ row = omega arith in
+    ap (λ (x : ℕ). row * 64 / 2 ^ x) (sym e) ∙ sym (shr-shr (row * 64) 6 (o - 6)) ∙ ap (λ (x : ℕ). x / 2 ^ (o - 6)) a
+
+pub row-up : (o w row : ℕ) → 6 ≤ o → w ≤ o → row * 64 / 2 ^ w / 2 ^ (o - w) ≡ row / 2 ^ (o - 6)
+row-up o w row g h = among o w (row * 64) h .up ∙ row-tree o row g
+
+-- a row's first block of a small order
+pub row-block : (w row : ℕ) → w ≤ 6 → row * 64 / 2 ^ w ≡ row * 2 ^ (6 - w)
+row-block w row h =
+    let p : 64 ≡ 2 ^ (6 - w) * 2 ^ w = pow-part 6 w h in
+    ap (λ (x : ℕ). row * x / 2 ^ w) p ∙ ap (λ (x : ℕ). x / 2 ^ w) (sym (mul-assoc row (2 ^ (6 - w)) (2 ^ w))) ∙ shl-shr (row * 2 ^ (6 - w)) w
+
+pub row-first : (w row i : ℕ) → w ≤ 6 → row ≤ i → row * 64 / 2 ^ w ≤ i * 2 ^ (6 - w)
+row-first w row i h l = let m : row * 2 ^ (6 - w) ≤ i * 2 ^ (6 - w) = mul-le-mul-right (2 ^ (6 - w)) l in omega (arith, row-block w row h)
+
+-- and of the first row of tree t
+pub first-row : (z o t : ℕ) → 6 ≤ z → o ≤ z → t * 2 ^ (z - 6) * 64 / 2 ^ o ≤ t * 2 ^ (z - o)
+first-row z o t g h =
+    let a : t * 2 ^ (z - 6) * 64 ≡ t * 2 ^ z = mul-assoc t (2 ^ (z - 6)) 64 ∙ ap (λ (x : ℕ). t * x) (sym (tree-words z g)) in
+    let b : t * 2 ^ z ≡ t * 2 ^ (z - o) * 2 ^ o = ap (λ (x : ℕ). t * x) (pow-part z o h) ∙ sym (mul-assoc t (2 ^ (z - o)) (2 ^ o)) in
+    let c : t * 2 ^ (z - 6) * 64 / 2 ^ o ≡ t * 2 ^ (z - o) = ap (λ (x : ℕ). x / 2 ^ o) (a ∙ b) ∙ shl-shr (t * 2 ^ (z - o)) o in
+    omega arith

@@ -3,22 +3,20 @@ use mathlib.Core.Path.{_≡_, refl, sym, ap, _∙_}
 use mathlib.Core.Bool.{Bool, true, false}
 use mathlib.Core.List.{List}
 use Prim.Native.Nat.{ℕ, zero, suc, _+_, _-_, _*_, _/_, _%_, _^_, _<_, _≤_}
-use native.Mathlib.Nat.{zero-div}
 use native.Mathlib.Omega.{arith}
 use lib.Dec.{eqb, leb}
-use lib.Pow.{shr-shr}
 use borrow.Author.Tests.{eqb-true, eqb-false, lt-leb, le-leb}
 use Rattle.rules.specs.Base.{both, sum, orFound, firstIn}
 use Rattle.rules.specs.Words.{treeFrames, treeRows}
 use Rattle.rules.specs.Lower.{bit, held, heldIn, clear, hit, searchIn}
 use Rattle.rules.specs.declared.Found.{Found}
 use Rattle.rules.specs.declared.Found.the-variants.{At, Nothing}
-use Rattle.lower_laws.specs.Power.{Inside, inside, among}
+use Rattle.lower_laws.specs.Power.{Inside, inside, among, row-tree, first-row}
 use Rattle.lower_laws.specs.Block.{Block, block-of}
 use Rattle.lower_laws.specs.Sum.{sum-one, sum-all}
 use Rattle.lower_laws.specs.Held.{bit-le}
 use Rattle.lower_laws.specs.First.{first-at, first-sound, first-empty}
-use Rattle.lower_laws.specs.Seek.{seekIn}
+use Rattle.lower_laws.specs.Seek.{seekIn, seek-is, seek-all}
 use Rattle.lower_laws.specs.Clear.{clear-held}
 
 both-right : (a b : Bool) → both a b ≡ true → b ≡ true
@@ -75,18 +73,12 @@ search-clear z ws tree row h e =
 
 -- the block that holds the hint row's first frame, if it is free, is the answer
 module _ (z : ℕ) (ws : List ℕ) (row o : ℕ) (least : 6 ≤ z) (h : o ≤ z) where
-  hint-tree : row * 64 / 2 ^ z ≡ row / treeRows z
-  hint-tree =
-      let e : 6 + (z - 6) ≡ z = omega arith in
-      let a : row * 64 / 64 ≡ row = omega arith in
-      ap (λ (x : ℕ). row * 64 / 2 ^ x) (sym e) ∙ sym (shr-shr (row * 64) 6 (z - 6)) ∙ ap (λ (x : ℕ). x / 2 ^ (z - 6)) a
-
   pub hint-free : (r : Bool) → r ≡ eqb (heldIn ws o (row * 64 / 2 ^ o)) 0 → r ≡ true → At (row * 64 / 2 ^ o) ≡ searchIn z ws (row / treeRows z) o row
   unfolding searchIn
   hint-free r e q =
       let a = among z o (row * 64) h in
-      let l : row / treeRows z * 2 ^ (z - o) ≤ row * 64 / 2 ^ o = rw hint-tree at (a .low) in
-      let m : row * 64 / 2 ^ o < row / treeRows z * 2 ^ (z - o) + 2 ^ (z - o) = rw hint-tree at (a .high) in
+      let l : row / treeRows z * 2 ^ (z - o) ≤ row * 64 / 2 ^ o = rw (row-tree z row least) at (a .low) in
+      let m : row * 64 / 2 ^ o < row / treeRows z * 2 ^ (z - o) + 2 ^ (z - o) = rw (row-tree z row least) at (a .high) in
       let k : leb (row * 64 / 2 ^ o) (row * 64 / 2 ^ o) ≡ true = le-leb (row * 64 / 2 ^ o) (row * 64 / 2 ^ o) (omega arith) in
       let f : firstIn (hit ws o (row * 64 / 2 ^ o)) (row / treeRows z * 2 ^ (z - o)) (2 ^ (z - o)) ≡ At (row * 64 / 2 ^ o) =
       first-at (hit ws o (row * 64 / 2 ^ o)) (row / treeRows z * 2 ^ (z - o)) (2 ^ (z - o)) (row * 64 / 2 ^ o) l m
@@ -94,24 +86,24 @@ module _ (z : ℕ) (ws : List ℕ) (row o : ℕ) (least : 6 ≤ z) (h : o ≤ z)
       (simp (k, sym e ∙ q)) in
       sym (simp f)
 
-  -- the search of the code: from the hint on, then from the tree's first
+  -- the block is one of the bitmap, where its tree is
+  pub hint-block : Block ws z (row / treeRows z) → Block ws o (row * 64 / 2 ^ o)
+  hint-block b = block-of ws z o (row * 64) h (rw (row-tree z row least) b)
+
+  -- upward from the hint, then from the tree's first row
   module _ (x : Found) (l : x ≡ seekIn ws z o (row / treeRows z) (row * 64 / 2 ^ o)) where
     pub seek-hint : (i : ℕ) → x ≡ At i → At i ≡ searchIn z ws (row / treeRows z) o row
     unfolding searchIn seekIn
     seek-hint i e = sym (simp (sym l ∙ e))
 
-    pub seek-round : (y : Found) → x ≡ Nothing → y ≡ seekIn ws z o (row / treeRows z) 0 → y ≡ searchIn z ws (row / treeRows z) o row
-    unfolding searchIn seekIn
-    seek-round y e r = sym (simp (sym l ∙ e, sym r))
-
-  -- the hint is not past its tree
-  pub hint-reached : row * 64 / 2 ^ o / 2 ^ (z - o) ≤ row / treeRows z
-  hint-reached = let a = among z o (row * 64) h in omega (arith, a .up, hint-tree)
-
-  -- and it is a block of the bitmap, where its tree is one
-  pub hint-block : Block ws z (row / treeRows z) → Block ws o (row * 64 / 2 ^ o)
-  hint-block b = block-of ws z o (row * 64) h (rw hint-tree b)
-
--- the first block of all is not past any
-pub zero-reached : (k i : ℕ) → 0 / 2 ^ k ≤ i
-zero-reached k i = omega (arith, zero-div (2 ^ k))
+    pub seek-round : (y : Found) → x ≡ Nothing → y ≡ seekIn ws z o (row / treeRows z) (row / treeRows z * treeRows z * 64 / 2 ^ o) → y ≡ searchIn z ws (row / treeRows z) o row
+    unfolding searchIn
+    seek-round y e r =
+        let t : ℕ = row / treeRows z in
+        let a : row / treeRows z * treeRows z * 64 / 2 ^ o ≤ row / treeRows z * 2 ^ (z - o) = first-row z o (row / treeRows z) least h in
+        let b : seekIn ws z o (row / treeRows z) (row / treeRows z * treeRows z * 64 / 2 ^ o) ≡ seekIn ws z o (row / treeRows z) 0 = seek-all ws z o (row / treeRows z) _ a in
+        let c : firstIn (hit ws o (row * 64 / 2 ^ o)) (row / treeRows z * 2 ^ (z - o)) (2 ^ (z - o)) ≡ Nothing = is-seek (row * 64 / 2 ^ o) ∙ sym l ∙ e in
+        r ∙ b ∙ sym (is-seek 0) ∙ sym (simp c)
+      where
+        is-seek : (from : ℕ) → firstIn (hit ws o from) (row / treeRows z * 2 ^ (z - o)) (2 ^ (z - o)) ≡ seekIn ws z o (row / treeRows z) from
+        is-seek from = seek-is ws z o (row / treeRows z) from

@@ -1,5 +1,5 @@
 -- The search by halves: `seekIn` is the first free block not before `from` in the block i of order o; its steps as the code has them. Assumes nothing.
-use mathlib.Core.Path.{_≡_, refl, sym, ap, ap₂, _∙_}
+use mathlib.Core.Path.{_≡_, refl, sym, ap, _∙_}
 use mathlib.Core.Bool.{Bool, true, false}
 use mathlib.Core.List.{List}
 use Prim.Native.Nat.{ℕ, zero, suc, _+_, _-_, _*_, _/_, _%_, _^_, _<_, _≤_}
@@ -12,11 +12,11 @@ use Rattle.rules.specs.Base.{pick, both, either, orFound, firstIn}
 use Rattle.rules.specs.Lower.{held, heldIn, hit}
 use Rattle.rules.specs.declared.Found.{Found}
 use Rattle.rules.specs.declared.Found.the-variants.{At, Nothing}
-use Rattle.lower_laws.specs.Power.{inside}
+use Rattle.lower_laws.specs.Power.{inside, row-up, row-first}
 use Rattle.lower_laws.specs.Run.{held-part-of}
-use Rattle.lower_laws.specs.First.{first-none, first-half, first-leaf}
+use Rattle.lower_laws.specs.First.{first-none, first-half, first-leaf, first-ext}
 
-both-no : (a b : Bool) → b ≡ false → both a b ≡ false
+pub both-no : (a b : Bool) → b ≡ false → both a b ≡ false
 both-no true b e = e
 both-no false b e = refl
 
@@ -24,21 +24,25 @@ both-no false b e = refl
 unfoldable pub seekIn : List ℕ → ℕ → ℕ → ℕ → ℕ → Found
 seekIn ws o w i from = firstIn (hit ws w from) (i * 2 ^ (o - w)) (2 ^ (o - w))
 
--- whether the search passes over a block: all of it lies before `from`, or it is wholly held
-unfoldable pub passedBy : List ℕ → ℕ → ℕ → ℕ → ℕ → Bool
-passedBy ws o w i from = either (ltb i (from / 2 ^ (o - w))) (eqb (heldIn ws o i) (2 ^ o))
-
--- no block of it is at or past `from`
-before-none : (ws : List ℕ) (o w i from : ℕ) → i < from / 2 ^ (o - w) → seekIn ws o w i from ≡ Nothing
+-- the search as the definition of the lower's search has it
+pub seek-is : (ws : List ℕ) (o w i from : ℕ) → firstIn (hit ws w from) (i * 2 ^ (o - w)) (2 ^ (o - w)) ≡ seekIn ws o w i from
 unfolding seekIn
-before-none ws o w i from h =
-    let k : ℕ = o - w in
-    let a : suc i * 2 ^ k ≤ from / 2 ^ k * 2 ^ k = mul-le-mul-right (2 ^ k) h in
-    let b : from / 2 ^ k * 2 ^ k ≤ from = div-mul-le-self from (2 ^ k) in
-    first-none (hit ws w from) (i * 2 ^ k) (2 ^ k) (λ j l m. simp (lt-leb from j (omega arith)))
+seek-is ws o w i from = refl
 
--- in a block that is wholly held every block is
-held-none : (ws : List ℕ) (o w i from : ℕ) → w ≤ o → heldIn ws o i ≡ 2 ^ o → seekIn ws o w i from ≡ Nothing
+-- whether the search from a row passes over a block of whole words: all of it lies before the row, or it is wholly held
+unfoldable pub passedBy : List ℕ → ℕ → ℕ → ℕ → Bool
+passedBy ws o i row = either (ltb i (row / 2 ^ (o - 6))) (eqb (heldIn ws o i) (2 ^ o))
+
+-- where `from` is not past the first block, it makes no difference
+pub seek-all : (ws : List ℕ) (o w i from : ℕ) → from ≤ i * 2 ^ (o - w) → seekIn ws o w i from ≡ seekIn ws o w i 0
+unfolding seekIn
+seek-all ws o w i from h = first-ext (hit ws w from) (hit ws w 0) (i * 2 ^ (o - w)) (2 ^ (o - w)) (λ j l m.
+    let a : leb from j ≡ true = le-leb from j (omega arith) in
+    let b : leb 0 j ≡ true = le-leb 0 j (omega arith) in
+    simp (a, b))
+
+-- a block that is wholly held has no free block in it
+pub held-none : (ws : List ℕ) (o w i from : ℕ) → w ≤ o → heldIn ws o i ≡ 2 ^ o → seekIn ws o w i from ≡ Nothing
 unfolding seekIn heldIn
 held-none ws o w i from h e =
     first-none (hit ws w from) (i * 2 ^ (o - w)) (2 ^ (o - w)) (λ j l m.
@@ -47,63 +51,91 @@ held-none ws o w i from h e =
     let p : 0 < 2 ^ w = pow-pos w in
     both-no (leb from j) (eqb (heldIn ws w j) 0) (ne-eqb (heldIn ws w j) 0 (λ z. omega arith)))
 
-pub passed-none : (ws : List ℕ) (o w i from : ℕ) → w ≤ o → passedBy ws o w i from ≡ true → seekIn ws o w i from ≡ Nothing
-unfolding passedBy
-passed-none ws o w i from h e = go (ltb i (from / 2 ^ (o - w))) refl e
-  where
-    go : (t : Bool) → ltb i (from / 2 ^ (o - w)) ≡ t → either t (eqb (heldIn ws o i) (2 ^ o)) ≡ true → seekIn ws o w i from ≡ Nothing
-    go true q p = before-none ws o w i from (ltb-true i _ q)
-    go false q p = held-none ws o w i from h (eqb-true (heldIn ws o i) (2 ^ o) p)
+-- nor has one that lies before the row's block
+before-none : (ws : List ℕ) (o w i from : ℕ) → i < from / 2 ^ (o - w) → seekIn ws o w i from ≡ Nothing
+unfolding seekIn
+before-none ws o w i from h =
+    let k : ℕ = o - w in
+    let a : suc i * 2 ^ k ≤ from / 2 ^ k * 2 ^ k = mul-le-mul-right (2 ^ k) h in
+    let b : from / 2 ^ k * 2 ^ k ≤ from = div-mul-le-self from (2 ^ k) in
+    first-none (hit ws w from) (i * 2 ^ k) (2 ^ k) (λ j l m. simp (lt-leb from j (omega arith)))
 
-pub passed-not : (ws : List ℕ) (o w i from : ℕ) → passedBy ws o w i from ≡ false → from / 2 ^ (o - w) ≤ i
+passed-none : (ws : List ℕ) (o w i row : ℕ) → 6 ≤ o → w ≤ o → passedBy ws o i row ≡ true → seekIn ws o w i (row * 64 / 2 ^ w) ≡ Nothing
 unfolding passedBy
-passed-not ws o w i from e = go (ltb i (from / 2 ^ (o - w))) refl e
+passed-none ws o w i row g h e = go (ltb i (row / 2 ^ (o - 6))) refl e
   where
-    go : (t : Bool) → ltb i (from / 2 ^ (o - w)) ≡ t → either t (eqb (heldIn ws o i) (2 ^ o)) ≡ false → from / 2 ^ (o - w) ≤ i
+    go : (t : Bool) → ltb i (row / 2 ^ (o - 6)) ≡ t → either t (eqb (heldIn ws o i) (2 ^ o)) ≡ true → seekIn ws o w i (row * 64 / 2 ^ w) ≡ Nothing
+    go true q p = before-none ws o w i (row * 64 / 2 ^ w) (rw (row-up o w row g h) (ltb-true i _ q))
+    go false q p = held-none ws o w i (row * 64 / 2 ^ w) h (eqb-true (heldIn ws o i) (2 ^ o) p)
+
+passed-not : (ws : List ℕ) (o i row : ℕ) → passedBy ws o i row ≡ false → row / 2 ^ (o - 6) ≤ i
+unfolding passedBy
+passed-not ws o i row e = go (ltb i (row / 2 ^ (o - 6))) refl e
+  where
+    go : (t : Bool) → ltb i (row / 2 ^ (o - 6)) ≡ t → either t (eqb (heldIn ws o i) (2 ^ o)) ≡ false → row / 2 ^ (o - 6) ≤ i
     go true q p = absurd (let z : _≡_ {A = ℕ} 0 1 = cc in omega arith)
     go false q p = ltb-false i _ q
 
--- the steps of the search, over its own answers
-module _ (ws : List ℕ) (o w i from : ℕ) where
-  leaf : o ≡ w → from / 2 ^ (o - w) ≤ i → seekIn ws o w i from ≡ pick (eqb (heldIn ws o i) 0) (At i) Nothing
-  unfolding seekIn
-  leaf e l =
-      let z : o - w ≡ 0 = omega arith in
-      let m : from / 2 ^ 0 ≤ i = rw z at l in
-      let k : leb from i ≡ true = le-leb from i (omega arith) in
-      first-leaf (hit ws w from) o w i e ∙ simp (k, e)
+-- the block itself is the one sought
+pub leaf : (ws : List ℕ) (o w i from : ℕ) → o ≡ w → from ≤ i → seekIn ws o w i from ≡ pick (eqb (heldIn ws o i) 0) (At i) Nothing
+unfolding seekIn
+leaf ws o w i from e l =
+    let k : leb from i ≡ true = le-leb from i l in
+    first-leaf (hit ws w from) o w i e ∙ simp (k, e)
 
-  module _ (r : Bool) (h : r ≡ eqb (heldIn ws o i) 0) (e : o ≡ w) (l : from / 2 ^ (o - w) ≤ i) where
-    pub leaf-yes : r ≡ true → At i ≡ seekIn ws o w i from
-    leaf-yes q = sym (leaf e l ∙ simp (sym h ∙ q))
+-- its halves
+pub halves : (ws : List ℕ) (o w i from : ℕ) → w < o → seekIn ws o w i from ≡ orFound (seekIn ws (o - 1) w (i * 2) from) (seekIn ws (o - 1) w (i * 2 + 1) from)
+unfolding seekIn
+halves ws o w i from h = first-half (hit ws w from) o w i h
 
-    pub leaf-no : r ≡ false → Nothing ≡ seekIn ws o w i from
-    leaf-no q = sym (leaf e l ∙ simp (sym h ∙ q))
+-- a row that is not past a block is not past its right half
+pub right-reached : (o i row : ℕ) → 6 ≤ o → (o ≡ 6 → ⊥) → row / 2 ^ (o - 6) ≤ i → row / 2 ^ (o - 1 - 6) ≤ i * 2 + 1
+right-reached o i row g nw h =
+    let q : (o - 1 - 6) + 1 ≡ o - 6 = omega arith in
+    let e : row / 2 ^ (o - 1 - 6) / 2 ≡ row / 2 ^ (o - 6) = shr-shr row (o - 1 - 6) 1 ∙ ap (λ (x : ℕ). row / 2 ^ x) q in
+    omega arith
 
-  module _ (more : w ≤ o) (ne : o ≡ w → ⊥) where
-    halves : seekIn ws o w i from ≡ orFound (seekIn ws (o - 1) w (i * 2) from) (seekIn ws (o - 1) w (i * 2 + 1) from)
-    unfolding seekIn
-    halves = first-half (hit ws w from) o w i (omega arith)
-
-    -- the left half is passed over
-    pub right-only : (p : Bool) (y : Found) → p ≡ passedBy ws (o - 1) w (i * 2) from → p ≡ true → y ≡ seekIn ws (o - 1) w (i * 2 + 1) from → y ≡ seekIn ws o w i from
-    right-only p y e t r = r ∙ sym (halves ∙ simp (passed-none ws (o - 1) w (i * 2) from (omega arith) (sym e ∙ t)))
-
-    -- the left half is sought
-    module _ (x : Found) (l : x ≡ seekIn ws (o - 1) w (i * 2) from) where
-      pub from-left : (j : ℕ) → x ≡ At j → At j ≡ seekIn ws o w i from
-      from-left j e = sym (halves ∙ simp (sym l ∙ e))
-
-      pub from-right : (y : Found) → x ≡ Nothing → y ≡ seekIn ws (o - 1) w (i * 2 + 1) from → y ≡ seekIn ws o w i from
-      from-right y e r = sym (halves ∙ simp (sym l ∙ e, sym r))
-
-    -- `from` is not past the right half
-    pub right-reached : from / 2 ^ (o - w) ≤ i → from / 2 ^ (o - 1 - w) ≤ i * 2 + 1
-    right-reached h =
-        let q : (o - 1 - w) + 1 ≡ o - w = omega arith in
-        let e : from / 2 ^ (o - 1 - w) / 2 ≡ from / 2 ^ (o - w) = shr-shr from (o - 1 - w) 1 ∙ ap (λ (x : ℕ). from / 2 ^ x) q in
+-- the steps in a block of whole words, from a row, over the search's own answers
+module _ (ws : List ℕ) (o w i row : ℕ) (g : 6 ≤ o) (more : w ≤ o) where
+  module _ (r : Bool) (h : r ≡ eqb (heldIn ws o i) 0) (e : o ≡ w) (l : row / 2 ^ (o - 6) ≤ i) where
+    start : row * 64 / 2 ^ w ≤ i
+    start =
+        let z : o - w ≡ 0 = omega arith in
+        let u : row * 64 / 2 ^ w / 2 ^ (o - w) ≡ row / 2 ^ (o - 6) = row-up o w row g more in
+        let v : row * 64 / 2 ^ w / 2 ^ 0 ≡ row / 2 ^ (o - 6) = rw z at u in
         omega arith
 
-    -- nor past the left half, where that is not passed over
-    pub left-reached : (p : Bool) → p ≡ passedBy ws (o - 1) w (i * 2) from → p ≡ false → from / 2 ^ (o - 1 - w) ≤ i * 2
-    left-reached p e f = passed-not ws (o - 1) w (i * 2) from (sym e ∙ f)
+    pub leaf-yes : r ≡ true → At i ≡ seekIn ws o w i (row * 64 / 2 ^ w)
+    leaf-yes q = sym (leaf ws o w i (row * 64 / 2 ^ w) e start ∙ simp (sym h ∙ q))
+
+    pub leaf-no : r ≡ false → Nothing ≡ seekIn ws o w i (row * 64 / 2 ^ w)
+    leaf-no q = sym (leaf ws o w i (row * 64 / 2 ^ w) e start ∙ simp (sym h ∙ q))
+
+  -- a word
+  pub at-word : (r : Found) → o ≡ 6 → row / 2 ^ (o - 6) ≤ i → r ≡ seekIn ws 6 w i 0 → r ≡ seekIn ws o w i (row * 64 / 2 ^ w)
+  at-word r e l q =
+      let z : o - 6 ≡ 0 = omega arith in
+      let m : row / 2 ^ 0 ≤ i = rw z at l in
+      let b : row * 64 / 2 ^ w ≤ i * 2 ^ (6 - w) = row-first w row i (omega arith) (omega arith) in
+      let c : row * 64 / 2 ^ w ≤ i * 2 ^ (o - w) = rw e b in
+      q ∙ ap (λ (x : ℕ). seekIn ws x w i 0) (sym e) ∙ sym (seek-all ws o w i (row * 64 / 2 ^ w) c)
+
+  module _ (ne : o ≡ w → ⊥) (nw : o ≡ 6 → ⊥) where
+    split2 : seekIn ws o w i (row * 64 / 2 ^ w) ≡ orFound (seekIn ws (o - 1) w (i * 2) (row * 64 / 2 ^ w)) (seekIn ws (o - 1) w (i * 2 + 1) (row * 64 / 2 ^ w))
+    split2 = halves ws o w i (row * 64 / 2 ^ w) (omega arith)
+
+    -- the left half is passed over
+    pub right-only : (p : Bool) (y : Found) → p ≡ passedBy ws (o - 1) (i * 2) row → p ≡ true → y ≡ seekIn ws (o - 1) w (i * 2 + 1) (row * 64 / 2 ^ w) → y ≡ seekIn ws o w i (row * 64 / 2 ^ w)
+    right-only p y e t r = r ∙ sym (split2 ∙ simp (passed-none ws (o - 1) w (i * 2) row (omega arith) (omega arith) (sym e ∙ t)))
+
+    -- the left half is sought
+    module _ (x : Found) (l : x ≡ seekIn ws (o - 1) w (i * 2) (row * 64 / 2 ^ w)) where
+      pub from-left : (j : ℕ) → x ≡ At j → At j ≡ seekIn ws o w i (row * 64 / 2 ^ w)
+      from-left j e = sym (split2 ∙ simp (sym l ∙ e))
+
+      pub from-right : (y : Found) → x ≡ Nothing → y ≡ seekIn ws (o - 1) w (i * 2 + 1) (row * 64 / 2 ^ w) → y ≡ seekIn ws o w i (row * 64 / 2 ^ w)
+      from-right y e r = sym (split2 ∙ simp (sym l ∙ e, sym r))
+
+    -- the row is not past the left half, where that is not passed over
+    pub left-reached : (p : Bool) → p ≡ passedBy ws (o - 1) (i * 2) row → p ≡ false → row / 2 ^ (o - 1 - 6) ≤ i * 2
+    left-reached p e f = passed-not ws (o - 1) (i * 2) row (sym e ∙ f)

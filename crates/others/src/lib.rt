@@ -52,7 +52,7 @@ fn pay_from(
             tries: tries,
         },
         Payer::Local { class, slot } => {
-            match local::take(locals, slot, name, lower::frames(q.order) as usize) {
+            match local::take(locals, slot, name, bits::frames(q.order) as usize) {
                 Held::Row(row) => steal::ask_lower(
                     h,
                     table,
@@ -107,7 +107,7 @@ pub fn steal_local(
         q.class,
         index_of(local),
         name,
-        lower::frames(q.order) as usize,
+        bits::frames(q.order) as usize,
     );
     pay_from(h, table, trees, locals, bits, q, name, payer, looks, tries)
 }
@@ -183,7 +183,7 @@ fn move_from(
                 tries: tries,
             },
         Payer::Local { class: _, slot } => {
-            match local::take(locals, slot, name, lower::frames(q.order) as usize) {
+            match local::take(locals, slot, name, bits::frames(q.order) as usize) {
                 Held::Row(_) => {
                     let l = local::clear(locals, slot);
                     let local = q.local;
@@ -222,7 +222,7 @@ pub fn demote_local(
       × ((r .looks ≤ looks) × (r .tries ≤ tries + 1)) ⌝ }
 {
     let local = q.local;
-    let payer = local::demote_any(h, table, locals, q.class, index_of(local), name, lower::frames(q.order) as usize);
+    let payer = local::demote_any(h, table, locals, q.class, index_of(local), name, bits::frames(q.order) as usize);
     move_from(h, table, trees, locals, bits, q, name, payer, looks, tries)
 }
 

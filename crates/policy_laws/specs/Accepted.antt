@@ -1,18 +1,18 @@
 -- The computed test of header and table says what 01 says, both ways; what an accepted table gives. Assumes nothing.
-use mathlib.Core.Path.{_≡_, refl, sym, ap, _∙_}
-use mathlib.Core.Bool.{Bool, true, false}
-use Prim.Native.Nat.{ℕ, suc, _+_, _-_, _*_, _/_, _%_, _^_, _<_, _≤_}
+use mathlib.Core.Path.{_≡_, sym, _∙_}
+use mathlib.Core.Bool.{true}
+use Prim.Native.Nat.{ℕ, _+_, _-_, _*_, _/_, _%_, _^_, _<_, _≤_}
 use native.Mathlib.Nat.{mod-eq-of-lt, div-lt-iff-lt-mul, le-div-iff-mul-le}
 use native.Mathlib.Omega.{arith}
 use lib.Dec.{eqb, leb, ltb}
 use lib.ListN.{getD}
 use lib.Pow.{pow-pos}
-use borrow.Author.Tests.{leb-true, leb-false, le-leb, lt-leb, ltb-true, ltb-false, lt-ltb, le-ltb, eq-eqb, ne-eqb, eqb-true, eqb-false}
+use borrow.Author.Tests.{leb-true, le-leb, ltb-true, ltb-false, lt-ltb, eq-eqb, ne-eqb, eqb-true, eqb-false}
 use Rattle.rules.specs.Base.{pick, both, allBelow, sum}
 use Rattle.rules.specs.Words.{Config, treeFrames, treeCount, trees, configured, localsOf, localCount}
 use Rattle.rules.specs.Policy.{pairOf, kindOf, cutOf, lowOf, highOf, kindAt, good, pairFormed, pairAccepted, tableFormed, implies, rulesAt, tableRules, framesAccepted, placesAccepted, defaultAccepted, accepted, Configured, Good, Accepts}
-use Rattle.policy_laws.specs.All.{by, true-false, both-left, both-right, both-true, implies-at, implies-make, all-at, all-make}
-use Rattle.policy_laws.specs.Kinds.{good-true, good-fact, kindAt-lt, configured-true, configured-fact, configured-false, unconfigured-fact}
+use Rattle.policy_laws.specs.All.{by, both-left, both-right, both-true, implies-at, implies-make, all-at, all-make}
+use Rattle.policy_laws.specs.Kinds.{good-true, good-fact, configured-true, configured-fact, unconfigured-fact}
 
 -- a pair's word in 01's words, kind by kind
 pub record PairForm (z w : ℕ) : Type 0 where
@@ -61,6 +61,7 @@ module _ (z w : ℕ) where
     zeros = λ n. (let l : w < 4 = ltb-true _ _ (rw (ne-eqb _ _ n) at h) in (omega arith, (omega arith, omega arith)));
   }
 
+  -- the other way
   pub says-formed : PairForm z w → pairFormed z w ≡ true
   unfolding pairFormed cutOf lowOf highOf kindOf
   says-formed f = by (eqb (w % 4) 3)
@@ -73,6 +74,7 @@ module _ (c : Config) where
   unfolding pairAccepted
   pair-says o e h = formed-says (c .order) (pairOf c o e) (both-left (pairFormed (c .order) (pairOf c o e)) _ h)
 
+  -- its second part
   pub pair-invalid : (o e : ℕ) → o < 8 → e < 8 → pairAccepted c o e ≡ true → (Configured c o × Configured c e → ⊥) → kindAt c o e ≡ 0
   unfolding pairAccepted
   pair-invalid o e lo le h n =
@@ -84,6 +86,7 @@ module _ (c : Config) where
       (λ b. eqb-true _ _ (rw (a, b) at r)))
       (λ a. eqb-true _ _ (rw a at r))
 
+  -- the other way
   pub says-pair : (o e : ℕ) → o < 8 → e < 8 → PairForm (c .order) (pairOf c o e) → ((Configured c o × Configured c e → ⊥) → kindAt c o e ≡ 0) → pairAccepted c o e ≡ true
   unfolding pairAccepted
   says-pair o e lo le f n =
@@ -100,6 +103,7 @@ module _ (c : Config) where
     back : Good c o e → 0 < kindAt c e (c .default) → Good c o (c .default)
     down : Good c o e → kindAt c k o ≡ 2 → Good c k e
 
+  -- the test of the three rules says them
   rules-say : (o e k : ℕ) → rulesAt c o e k ≡ true → RulesAt o e k
   unfolding rulesAt
   rules-say o e k h =
@@ -112,6 +116,7 @@ module _ (c : Config) where
         down = λ g n. good-fact c k e (implies-at (eqb (kindAt c k o) 2) _ (both-right (implies (ltb 0 (kindAt c e (c .default))) (good c o (c .default))) _ (on (good-true c o e g))) (eq-eqb _ _ n));
       }
 
+  -- the other way
   say-rules : (o e k : ℕ) → o < 8 → RulesAt o e k → rulesAt c o e k ≡ true
   unfolding rulesAt
   say-rules o e k lo r =
@@ -151,6 +156,7 @@ module _ (c : Config) where
   unfolding localsOf
   places-say h k l = omega (arith, place-at h k (l .0))
 
+  -- the other way
   say-places : ((k : ℕ) → Configured c k → localsOf (c .places) k ≤ 32) → placesAccepted c ≡ true
   unfolding placesAccepted localsOf configured
   say-places h = all-make 8 (λ k. leb (getD (c .places) k 0) 33) (λ k l. by (configured (c .places) k)
@@ -183,6 +189,7 @@ module _ (c : Config) where
         };
       }
 
+  -- the other way
   pub says-table : AcceptedTable c → both (tableFormed c) (tableRules c) ≡ true
   unfolding tableFormed tableRules
   says-table t =
@@ -228,11 +235,12 @@ module _ (c : Config) where
 
 -- what follows from acceptance
 module _ (c : Config) (a : AcceptedConfig c) where
-  -- n is 1 to 1,024
+  -- n is at least 1
   pub trees-some : 1 ≤ trees c
   unfolding treeCount
   trees-some = le-div-iff-mul-le {k = treeFrames (c .order)} {x = 1} {y = c .frames + (treeFrames (c .order) - 1)} (pow-pos (c .order)) .1 (omega (arith, a .some, pow-pos (c .order)))
 
+  -- n is at most 1,024
   pub trees-most : trees c ≤ 1024
   unfolding treeCount
   trees-most =
@@ -266,10 +274,11 @@ module _ (c : Config) (a : AcceptedConfig c) where
   pub good-configured : (o e : ℕ) → o < 8 → e < 8 → Good c o e → Configured c o × Configured c e
   good-configured o e lo le g = pair-configured c (a .table) o e lo le (omega arith)
 
-  -- (c, c) is good for a configured class, so for the default
+  -- (k, k) is good for a configured class
   pub own-good : (k : ℕ) → Configured c k → Good c k k
   own-good = a .table .rules .own
 
+  -- so is (default, default)
   pub default-good : Good c (c .default) (c .default)
   default-good = own-good (c .default) (a .default)
 
@@ -284,11 +293,12 @@ module _ (c : Config) (a : AcceptedConfig c) where
       let x = pair-configured c (a .table) k o lk lo (omega arith) in
       a .table .rules .down o e k (y .0) (y .1) (x .0) g n
 
-  -- a pair with the default that is not Invalid is good: it is never Steal
+  -- (k, default) is good where it is not Invalid
   pub to-default-good : (k : ℕ) → k < 8 → 0 < kindAt c k (c .default) → Good c k (c .default)
   to-default-good k l n =
       let y = pair-configured c (a .table) k (c .default) l (a .default .0) n in
       a .table .rules .back k k (y .0) (y .0) (own-good k (y .0)) n
 
+  -- (k, default) is never Steal
   pub never-steal : (k : ℕ) → k < 8 → kindAt c k (c .default) ≡ 1 → ⊥
   never-steal k l h = let g : 2 ≤ kindAt c k (c .default) = to-default-good k l (omega arith) in omega arith

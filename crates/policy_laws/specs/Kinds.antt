@@ -1,12 +1,11 @@
 -- The policy's answer against the pair's kind, and good pairs and configured classes as tests and as facts. Assumes nothing.
-use mathlib.Core.Path.{_≡_, refl, sym, ap, _∙_}
-use mathlib.Core.Bool.{Bool, true, false}
-use mathlib.Core.List.{List}
-use Prim.Native.Nat.{ℕ, _+_, _*_, _/_, _%_, _^_, _<_, _≤_}
+use mathlib.Core.Path.{_≡_, sym, ap, _∙_}
+use mathlib.Core.Bool.{true, false}
+use Prim.Native.Nat.{ℕ, _^_, _<_, _≤_}
 use native.Mathlib.Omega.{arith}
 use lib.Dec.{eqb, leb, ltb}
 use lib.ListN.{getD}
-use borrow.Author.Tests.{leb-true, leb-false, le-leb, lt-leb, ltb-true, ltb-false, lt-ltb, le-ltb, eq-eqb, ne-eqb, eqb-true, eqb-false}
+use borrow.Author.Tests.{leb-true, leb-false, le-leb, lt-leb, ltb-true, ltb-false, lt-ltb, eq-eqb, eqb-true, eqb-false}
 use Rattle.rules.specs.Base.{pick}
 use Rattle.rules.specs.Words.{Config, configured}
 use Rattle.rules.specs.Policy.{pairOf, kindOf, cutOf, lowOf, highOf, policyOf, policy, kindAt, good, Configured, Good}
@@ -31,6 +30,7 @@ pub high-lt : (w : ℕ) → w < 2 ^ 32 → highOf w < 256
 unfolding highOf
 high-lt w h = omega arith
 
+-- likewise low
 pub low-lt : (w : ℕ) → lowOf w < 256
 unfolding lowOf
 low-lt w = omega arith
@@ -81,6 +81,7 @@ module _ (c : Config) (o e : ℕ) where
   unfolding kindAt
   kind-cases = kinds-of (pairOf c o e) 0
 
+  -- a pair has one of four kinds
   pub kindAt-lt : kindAt c o e < 4
   unfolding kindAt
   kindAt-lt = kind-lt (pairOf c o e)
@@ -95,6 +96,7 @@ module _ (c : Config) (o e : ℕ) where
   unfolding policy kindAt
   policy-invalid free = invalid-of (pairOf c o e) free
 
+  -- the other way
   pub invalid-kind : (free : ℕ) → policy c o e free ≡ Invalid → kindAt c o e ≡ 0
   invalid-kind free h = sym (policy-number free) ∙ ap kindNumber h
 
@@ -103,6 +105,7 @@ module _ (c : Config) (o e : ℕ) where
   unfolding policy kindAt
   policy-steal free = steal-of (pairOf c o e) free
 
+  -- the other way
   pub steal-kind : (free : ℕ) → policy c o e free ≡ Steal → kindAt c o e ≡ 1
   steal-kind free h = sym (policy-number free) ∙ ap kindNumber h
 
@@ -111,6 +114,7 @@ module _ (c : Config) (o e : ℕ) where
   unfolding policy kindAt
   policy-demote free = demote-of (pairOf c o e) free
 
+  -- the other way
   pub demote-kind : (free : ℕ) → policy c o e free ≡ Demote → kindAt c o e ≡ 2
   demote-kind free h = sym (policy-number free) ∙ ap kindNumber h
 
@@ -119,6 +123,7 @@ module _ (c : Config) (o e : ℕ) where
   unfolding policy kindAt
   policy-match free = match-of (pairOf c o e) free
 
+  -- the other way, whatever the rating
   pub match-kind : (free r : ℕ) → policy c o e free ≡ Match r → kindAt c o e ≡ 3
   match-kind free r h = sym (policy-number free) ∙ ap kindNumber h
 
@@ -133,14 +138,17 @@ module _ (c : Config) (o e : ℕ) where
   unfolding good
   good-true h = le-leb _ _ h
 
+  -- the fact, from the test
   pub good-fact : good c o e ≡ true → Good c o e
   unfolding good
   good-fact h = leb-true _ _ h
 
+  -- a pair that is Invalid or Steal
   pub bad-false : kindAt c o e < 2 → good c o e ≡ false
   unfolding good
   bad-false h = lt-leb _ _ h
 
+  -- the fact, from the test
   pub bad-fact : good c o e ≡ false → kindAt c o e < 2
   unfolding good
   bad-fact h = leb-false _ _ h
@@ -149,6 +157,7 @@ module _ (c : Config) (o e : ℕ) where
   pub demote-good : kindAt c o e ≡ 2 → Good c o e
   demote-good h = omega arith
 
+  -- likewise Match
   pub match-good : kindAt c o e ≡ 3 → Good c o e
   match-good h = omega arith
 
@@ -158,14 +167,17 @@ module _ (c : Config) (k : ℕ) where
   unfolding configured
   configured-true h = lt-ltb _ _ (h .1)
 
+  -- the fact, from the test
   pub configured-fact : k < 8 → configured (c .places) k ≡ true → Configured c k
   unfolding configured
   configured-fact l h = (l, ltb-true _ _ h)
 
+  -- an unconfigured class
   pub configured-false : (Configured c k → ⊥) → k < 8 → configured (c .places) k ≡ false
   unfolding configured
   configured-false h l = by (ltb 0 (getD (c .places) k 0)) (λ e. absurd (h (l, ltb-true _ _ e))) (λ e. e)
 
+  -- the fact, from the test
   pub unconfigured-fact : configured (c .places) k ≡ false → Configured c k → ⊥
   unfolding configured
   unconfigured-fact h g = let a : getD (c .places) k 0 ≤ 0 = ltb-false _ _ h in omega (arith, g .1)

@@ -1,15 +1,15 @@
 -- The test of the table row by row, which the code makes: a pair's three rules only where the pair is good. It is the same test. Assumes nothing.
-use mathlib.Core.Path.{_≡_, refl, sym, ap, _∙_}
+use mathlib.Core.Path.{_≡_, refl}
 use mathlib.Core.Bool.{Bool, true, false}
 use mathlib.Core.List.{List}
-use Prim.Native.Nat.{ℕ, _+_, _*_, _/_, _%_, _^_, _<_, _≤_}
+use Prim.Native.Nat.{ℕ, _%_, _<_}
 use native.Mathlib.Omega.{arith}
 use lib.Dec.{eqb, leb, ltb}
 use lib.ListN.{getD}
-use borrow.Author.Tests.{lt-ltb, ltb-true, eq-eqb, ne-eqb, eqb-true, eqb-false}
+use borrow.Author.Tests.{lt-ltb, ltb-true, eq-eqb, eqb-true}
 use Rattle.rules.specs.Base.{pick, both, allBelow}
 use Rattle.rules.specs.Words.{Config, configured}
-use Rattle.rules.specs.Policy.{pairOf, kindOf, cutOf, lowOf, highOf, kindAt, good, pairFormed, tableFormed, implies, tableRules, framesAccepted, placesAccepted, defaultAccepted, accepted, Configured, Good, Accepts}
+use Rattle.rules.specs.Policy.{pairOf, kindOf, cutOf, lowOf, highOf, kindAt, good, pairFormed, tableFormed, implies, tableRules, Configured, Good}
 use Rattle.policy_laws.specs.All.{by, same-test, both-left, both-right, both-true, implies-at, implies-make, all-at, all-make}
 use Rattle.policy_laws.specs.Kinds.{good-true, good-fact, configured-true, configured-fact, unconfigured-fact}
 use Rattle.policy_laws.specs.Accepted.{PairForm, AcceptedTable, kind-alone, formed-says, says-formed, pair-configured, table-says, says-table}
@@ -52,6 +52,7 @@ module _ (c : Config) where
   unfolding pairFormed kindOf
   zero-formed z w h = rw h (formed-says z 0 refl)
 
+  -- and is Invalid
   zero-kind : (o e : ℕ) → pairOf c o e ≡ 0 → kindAt c o e ≡ 0
   unfolding kindAt kindOf
   zero-kind o e h = rw h
@@ -65,7 +66,7 @@ module _ (c : Config) where
       let l : pairOf c o e < 4 = kind-alone (pairOf c o e) (g .0) (g .1 .0) (g .1 .1) in
       omega arith
 
-  -- the rows' test passes: at the pairs of a row
+  -- the rows' test passes: what it says at the pairs of a row
   module _ (h : allBelow 8 (rowAccepted c) ≡ true) (o : ℕ) (lo : o < 8) where
     row-on : configured (c .places) o ≡ true → both (good c o o) (allBelow 8 (cellAccepted c o)) ≡ true
     unfolding rowAccepted
@@ -92,10 +93,12 @@ module _ (c : Config) where
     unfolding cellAccepted
     cell-on a e le b g = rw (b, good-true c o e g) at (both-right (pairFormed (c .order) (pairOf c o e)) _ (cell-at a e le))
 
+    -- the third rule at k
     demotes-at : (e k : ℕ) → k < 8 → demotesKept c o e ≡ true → kindAt c k o ≡ 2 → Good c k e
     unfolding demotesKept
     demotes-at e k lk t n = good-fact c k e (implies-at (eqb (kindAt c k o) 2) _ (all-at 8 (demoteKept c o e) t k lk) (eq-eqb _ _ n))
 
+  -- the rows' test passes: so 01 accepts the table
   pub rows-say : allBelow 8 (rowAccepted c) ≡ true → AcceptedTable c
   rows-say h = record {
     formed = λ o e lo le. by (configured (c .places) o) (λ a. cell-formed h o lo a e le) (λ a. zero-formed (c .order) (pairOf c o e) (row-off h o lo a e le));
@@ -119,6 +122,7 @@ module _ (c : Config) where
         (let n : kindAt c k o ≡ 2 = eqb-true _ _ q in
         good-true c k e (t .rules .down o e k l m (pair-configured c t k o lk (l .0) (omega arith) .0) g n))))
 
+    -- at a pair of a configured class
     say-cell : (o e : ℕ) → Configured c o → e < 8 → cellAccepted c o e ≡ true
     unfolding cellAccepted
     say-cell o e l le = both-true (pairFormed (c .order) (pairOf c o e)) _ (says-formed (c .order) (pairOf c o e) (t .formed o e (l .0) le))
@@ -129,6 +133,7 @@ module _ (c : Config) where
         (say-demotes o e l m g)))))
         (λ b. rw b (eq-eqb _ _ (t .invalid o e (l .0) le (λ y. unconfigured-fact c e b (y .1))))))
 
+    -- at a row
     say-row : (o : ℕ) → o < 8 → rowAccepted c o ≡ true
     unfolding rowAccepted rowEmpty
     say-row o lo = by (configured (c .places) o)
@@ -136,6 +141,7 @@ module _ (c : Config) where
         rw a (both-true (good c o o) _ (good-true c o o (t .rules .own o l)) (all-make 8 (cellAccepted c o) (λ e le. say-cell o e l le)))))
         (λ a. rw a (all-make 8 (pairEmpty c o) (λ e le. eq-eqb _ _ (kind-zero o e (t .formed o e lo le) (t .invalid o e lo le (λ y. unconfigured-fact c o a (y .0)))))))
 
+    -- at all rows
     pub say-rows : allBelow 8 (rowAccepted c) ≡ true
     say-rows = all-make 8 (rowAccepted c) say-row
 

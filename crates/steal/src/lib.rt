@@ -46,7 +46,7 @@ pub fn ask_lower(
             tries: tries + 1,
         },
         Found::Nothing => {
-            trees::put(h, table, trees, t, lower::frames(q.order) as usize);
+            trees::put(h, table, trees, t, bits::frames(q.order) as usize);
             Routed {
                 got: Got::Missed,
                 looks: looks,
@@ -74,7 +74,7 @@ pub fn steal_global(
       ≡ stealGlobal (config h (now (table .entry))) q name t (st (now (trees .entry)) (now (locals .entry)) (now (bits .entry)) looks tries))
       × ((r .looks ≤ looks) × (r .tries ≤ tries + 1)) ⌝ }
 {
-    match trees::steal(h, table, trees, t, q.class, lower::frames(q.order) as usize) {
+    match trees::steal(h, table, trees, t, q.class, bits::frames(q.order) as usize) {
         Took::No => Routed {
             got: Got::Missed,
             looks: looks,
@@ -174,7 +174,7 @@ pub fn reserved(
 {
     match lower::lower_get(bits, t * 32, q.order, Name::Any) {
         Found::At(f) => {
-            let n = lower::frames(q.order) as usize;
+            let n = bits::frames(q.order) as usize;
             let l = local::swap(
                 locals,
                 j,
@@ -219,7 +219,7 @@ pub fn reserve_or_steal(
       ≡ reserveOrSteal (config h (now (table .entry))) q j t (st (now (trees .entry)) (now (locals .entry)) (now (bits .entry)) looks tries))
       × ((r .looks ≤ looks) × (r .tries ≤ tries + 1)) ⌝ }
 {
-    match trees::reserve_or_steal(h, table, trees, t, q.class, lower::frames(q.order) as usize) {
+    match trees::reserve_or_steal(h, table, trees, t, q.class, bits::frames(q.order) as usize) {
         Taken::No => Routed {
             got: Got::Missed,
             looks: looks,

@@ -34,7 +34,7 @@ pub fn get_local(
       ≡ getLocal syncs (config h (now (table .entry))) q name j (st (now (trees .entry)) (now (locals .entry)) (now (bits .entry)) looks tries))
       × ((r .looks ≤ looks) × (r .tries ≤ tries + 1)) ⌝ }
 {
-    let n = lower::frames(q.order) as usize;
+    let n = bits::frames(q.order) as usize;
     match local::take(locals, j, name, n) {
         Held::Row(row) => match lower::lower_get(bits, row, q.order, name) {
             Found::At(f) => {
@@ -96,7 +96,7 @@ pub fn top_up(
             tries: tries,
         };
     }
-    let n = lower::frames(q.order) as usize;
+    let n = bits::frames(q.order) as usize;
     if n < free {
         return Routed {
             got: Got::MissedAt(row / 32),

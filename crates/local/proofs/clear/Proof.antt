@@ -15,10 +15,12 @@ same-length c = search needs
 
 returns : tie.Need-returns
 unfolding localClear
-returns c =
-    rw (
-      ← c .before .before .before .before .load .ensures .0,
-      ← c .before .before .store .ensures,
+returns c = (
+      rw (
+        ← c .before .before .before .before .load .ensures .0,
+        ← c .before .before .store .ensures,
+      ),
+      c .before .before .before .before .load .ensures .1 .1,
     )
 
 pub clear-spec : {M : Type 1} → statement M

@@ -1,15 +1,16 @@
 use borrow.Author.Needs.{needs}
 use native.Mathlib.Omega.{arith}
 use Rattle.lower_laws.specs.Block.{block-few, half-left, half-right}
-use Rattle.lower_laws.specs.Seek.{leaf-yes, leaf-no, right-only, from-left, from-right, right-reached, left-reached}
+use Rattle.lower_laws.specs.Seek.{leaf-yes, leaf-no, at-word, right-only, from-left, from-right, right-reached, left-reached}
 use Prim.Native.Nat.{ℕ, _<_}
 use borrow.Fn.Kinds.{In}
 use borrow.Fn.PlainCycle.{Measures, is, falls, and}
 use Rattle.lower.proofs.seek.Reads as seek
 use Rattle.lower.proofs.seek.Kinds as seek-kinds
 use Rattle.lower.proofs.+seek.Lts-seek as seek-lts
-use Rattle.lower.proofs.is_free.Reads as is-free-reads
+use Rattle.bits.proofs.is_free.Reads as is-free-reads
 use Rattle.lower.proofs.passed.Reads as passed-reads
+use Rattle.lower.proofs.seek_row.Reads as seek-row-reads
 use Rattle.lower.proofs.+seek.{statement}
 use Rattle.lower.proofs.+seek.Tie.{close}
 
@@ -22,10 +23,12 @@ seek-at t = and 1 seek-kinds.ps (is 1 seek-kinds.ps μ-seek t) seek.Pre
 abbrev seek-below : ℕ → In 1 seek-kinds.ps
 seek-below t = and 1 seek-kinds.ps (falls 1 seek-kinds.ps _<_ μ-seek t) seek.Pre
 
--- src/lib.rt:181:12
+-- src/lib.rt:63:12
 seek-is-free-requires : (t : ℕ) → seek-lts.Need-is-free-requires (
   is-free-reads.Asked,
   is-free-reads.Learnt,
+  seek-row-reads.Asked,
+  seek-row-reads.Learnt,
   passed-reads.Asked,
   passed-reads.Learnt,
   seek-below t,
@@ -33,10 +36,12 @@ seek-is-free-requires : (t : ℕ) → seek-lts.Need-is-free-requires (
 ) (seek-at t) seek.Post
 seek-is-free-requires t c κs = search needs
 
--- src/lib.rt:182:13
+-- src/lib.rt:64:13
 seek-returns : (t : ℕ) → seek-lts.Need-returns (
   is-free-reads.Asked,
   is-free-reads.Learnt,
+  seek-row-reads.Asked,
+  seek-row-reads.Learnt,
   passed-reads.Asked,
   passed-reads.Learnt,
   seek-below t,
@@ -44,10 +49,12 @@ seek-returns : (t : ℕ) → seek-lts.Need-returns (
 ) (seek-at t) seek.Post
 seek-returns t c = search (needs, leaf-yes)
 
--- src/lib.rt:184:9
+-- src/lib.rt:66:9
 seek-returns-2 : (t : ℕ) → seek-lts.Need-returns-2 (
   is-free-reads.Asked,
   is-free-reads.Learnt,
+  seek-row-reads.Asked,
+  seek-row-reads.Learnt,
   passed-reads.Asked,
   passed-reads.Learnt,
   seek-below t,
@@ -55,10 +62,38 @@ seek-returns-2 : (t : ℕ) → seek-lts.Need-returns-2 (
 ) (seek-at t) seek.Post
 seek-returns-2 t c = search (needs, leaf-no)
 
--- src/lib.rt:186:22
+-- src/lib.rt:69:9
+seek-seek-row-requires : (t : ℕ) → seek-lts.Need-seek-row-requires (
+  is-free-reads.Asked,
+  is-free-reads.Learnt,
+  seek-row-reads.Asked,
+  seek-row-reads.Learnt,
+  passed-reads.Asked,
+  passed-reads.Learnt,
+  seek-below t,
+  seek.Post,
+) (seek-at t) seek.Post
+seek-seek-row-requires t c κs = (search needs, rw (c .if3 .taken) at (c .before .before .before .pre .1 .1 .1 .1))
+
+-- src/lib.rt:69:9
+seek-returns-3 : (t : ℕ) → seek-lts.Need-returns-3 (
+  is-free-reads.Asked,
+  is-free-reads.Learnt,
+  seek-row-reads.Asked,
+  seek-row-reads.Learnt,
+  passed-reads.Asked,
+  passed-reads.Learnt,
+  seek-below t,
+  seek.Post,
+) (seek-at t) seek.Post
+seek-returns-3 t c = search (needs, at-word)
+
+-- src/lib.rt:71:22
 seek-sub-passed : (t : ℕ) → seek-lts.Need-sub-passed (
   is-free-reads.Asked,
   is-free-reads.Learnt,
+  seek-row-reads.Asked,
+  seek-row-reads.Learnt,
   passed-reads.Asked,
   passed-reads.Learnt,
   seek-below t,
@@ -66,21 +101,25 @@ seek-sub-passed : (t : ℕ) → seek-lts.Need-sub-passed (
 ) (seek-at t) seek.Post
 seek-sub-passed t c = search needs
 
--- src/lib.rt:186:39
+-- src/lib.rt:71:33
 seek-mul-passed : (t : ℕ) → seek-lts.Need-mul-passed (
   is-free-reads.Asked,
   is-free-reads.Learnt,
+  seek-row-reads.Asked,
+  seek-row-reads.Learnt,
   passed-reads.Asked,
   passed-reads.Learnt,
   seek-below t,
   seek.Post,
 ) (seek-at t) seek.Post
-seek-mul-passed t c = let s = block-few _ _ _ (c .before .before .pre .1 .1 .1) in omega arith
+seek-mul-passed t c = let s = block-few _ _ _ (c .before .before .before .pre .1 .1 .1 .1) in omega arith
 
--- src/lib.rt:186:8
+-- src/lib.rt:71:8
 seek-passed-requires : (t : ℕ) → seek-lts.Need-passed-requires (
   is-free-reads.Asked,
   is-free-reads.Learnt,
+  seek-row-reads.Asked,
+  seek-row-reads.Learnt,
   passed-reads.Asked,
   passed-reads.Learnt,
   seek-below t,
@@ -88,10 +127,12 @@ seek-passed-requires : (t : ℕ) → seek-lts.Need-passed-requires (
 ) (seek-at t) seek.Post
 seek-passed-requires t c κs = search (needs, half-left)
 
--- src/lib.rt:187:28
+-- src/lib.rt:72:28
 seek-sub-seek : (t : ℕ) → seek-lts.Need-sub-seek (
   is-free-reads.Asked,
   is-free-reads.Learnt,
+  seek-row-reads.Asked,
+  seek-row-reads.Learnt,
   passed-reads.Asked,
   passed-reads.Learnt,
   seek-below t,
@@ -99,54 +140,64 @@ seek-sub-seek : (t : ℕ) → seek-lts.Need-sub-seek (
 ) (seek-at t) seek.Post
 seek-sub-seek t c = search needs
 
--- src/lib.rt:187:45
+-- src/lib.rt:72:45
 seek-mul-seek : (t : ℕ) → seek-lts.Need-mul-seek (
   is-free-reads.Asked,
   is-free-reads.Learnt,
+  seek-row-reads.Asked,
+  seek-row-reads.Learnt,
   passed-reads.Asked,
   passed-reads.Learnt,
   seek-below t,
   seek.Post,
 ) (seek-at t) seek.Post
-seek-mul-seek t c = let s = block-few _ _ _ (c .before .before .before .before .pre .1 .1 .1) in omega arith
+seek-mul-seek t c = let s = block-few _ _ _ (c .before .before .before .before .before .pre .1 .1 .1 .1) in omega arith
 
--- src/lib.rt:187:45
+-- src/lib.rt:72:45
 seek-add-seek : (t : ℕ) → seek-lts.Need-add-seek (
   is-free-reads.Asked,
   is-free-reads.Learnt,
+  seek-row-reads.Asked,
+  seek-row-reads.Learnt,
   passed-reads.Asked,
   passed-reads.Learnt,
   seek-below t,
   seek.Post,
 ) (seek-at t) seek.Post
-seek-add-seek t c = let s = block-few _ _ _ (c .before .before .before .before .pre .1 .1 .1) in omega arith
+seek-add-seek t c = let s = block-few _ _ _ (c .before .before .before .before .before .pre .1 .1 .1 .1) in omega arith
 
--- src/lib.rt:187:9
+-- src/lib.rt:72:9
 seek-seek-requires : (t : ℕ) → seek-lts.Need-seek-requires (
   is-free-reads.Asked,
   is-free-reads.Learnt,
+  seek-row-reads.Asked,
+  seek-row-reads.Learnt,
   passed-reads.Asked,
   passed-reads.Learnt,
   seek-below t,
   seek.Post,
 ) (seek-at t) seek.Post
-seek-seek-requires t c κs = search (needs, half-right, right-reached)
+seek-seek-requires t c κs = (search needs, (search needs, (search needs, (right-reached _ _ _ (c .before .before .before .before .before .pre .1 .0) (c .before .before .if3 .left) (c .before .before .before .before .before .pre .1 .1 .1 .0), half-right _ _ _ _ (c .before .before .before .before .before .pre .1 .1 .0) (c .before .before .before .if1 .left) (c .before .before .before .before .before .pre .1 .1 .1 .1)))))
 
--- src/lib.rt:187:9
-seek-returns-3 : (t : ℕ) → seek-lts.Need-returns-3 (
+-- src/lib.rt:72:9
+seek-returns-4 : (t : ℕ) → seek-lts.Need-returns-4 (
   is-free-reads.Asked,
   is-free-reads.Learnt,
+  seek-row-reads.Asked,
+  seek-row-reads.Learnt,
   passed-reads.Asked,
   passed-reads.Learnt,
   seek-below t,
   seek.Post,
 ) (seek-at t) seek.Post
-seek-returns-3 t c = search (needs, right-only)
+seek-returns-4 t c = search (needs, right-only)
 
--- src/lib.rt:189:23
+-- src/lib.rt:74:23
 seek-sub-seek-2 : (t : ℕ) → seek-lts.Need-sub-seek-2 (
   is-free-reads.Asked,
   is-free-reads.Learnt,
+  seek-row-reads.Asked,
+  seek-row-reads.Learnt,
   passed-reads.Asked,
   passed-reads.Learnt,
   seek-below t,
@@ -154,32 +205,38 @@ seek-sub-seek-2 : (t : ℕ) → seek-lts.Need-sub-seek-2 (
 ) (seek-at t) seek.Post
 seek-sub-seek-2 t c = search needs
 
--- src/lib.rt:189:40
+-- src/lib.rt:74:40
 seek-mul-seek-2 : (t : ℕ) → seek-lts.Need-mul-seek-2 (
   is-free-reads.Asked,
   is-free-reads.Learnt,
+  seek-row-reads.Asked,
+  seek-row-reads.Learnt,
   passed-reads.Asked,
   passed-reads.Learnt,
   seek-below t,
   seek.Post,
 ) (seek-at t) seek.Post
-seek-mul-seek-2 t c = let s = block-few _ _ _ (c .before .before .before .before .pre .1 .1 .1) in omega arith
+seek-mul-seek-2 t c = let s = block-few _ _ _ (c .before .before .before .before .before .pre .1 .1 .1 .1) in omega arith
 
--- src/lib.rt:189:11
+-- src/lib.rt:74:11
 seek-seek-requires-2 : (t : ℕ) → seek-lts.Need-seek-requires-2 (
   is-free-reads.Asked,
   is-free-reads.Learnt,
+  seek-row-reads.Asked,
+  seek-row-reads.Learnt,
   passed-reads.Asked,
   passed-reads.Learnt,
   seek-below t,
   seek.Post,
 ) (seek-at t) seek.Post
-seek-seek-requires-2 t c κs = search (needs, half-left, left-reached)
+seek-seek-requires-2 t c κs = (search needs, (search needs, (search needs, (left-reached _ _ _ _ _ (c .before .before .before .before .before .pre .1 .0) (c .before .before .before .before .before .pre .1 .1 .0) (c .before .before .before .if1 .left) (c .before .before .if3 .left) _ (c .before .passed .ensures) (c .if4 .left), half-left _ _ _ _ (c .before .before .before .before .before .pre .1 .1 .0) (c .before .before .before .if1 .left) (c .before .before .before .before .before .pre .1 .1 .1 .1)))))
 
--- src/lib.rt:190:19
+-- src/lib.rt:75:19
 seek-enum-known-i : (t : ℕ) → seek-lts.Need-enum-known-i (
   is-free-reads.Asked,
   is-free-reads.Learnt,
+  seek-row-reads.Asked,
+  seek-row-reads.Learnt,
   passed-reads.Asked,
   passed-reads.Learnt,
   seek-below t,
@@ -187,10 +244,12 @@ seek-enum-known-i : (t : ℕ) → seek-lts.Need-enum-known-i (
 ) (seek-at t) seek.Post
 seek-enum-known-i t c = search needs
 
--- src/lib.rt:191:39
+-- src/lib.rt:76:39
 seek-enum-told : (t : ℕ) → seek-lts.Need-enum-told (
   is-free-reads.Asked,
   is-free-reads.Learnt,
+  seek-row-reads.Asked,
+  seek-row-reads.Learnt,
   passed-reads.Asked,
   passed-reads.Learnt,
   seek-below t,
@@ -198,10 +257,12 @@ seek-enum-told : (t : ℕ) → seek-lts.Need-enum-told (
 ) (seek-at t) seek.Post
 seek-enum-told t c = search needs
 
--- src/lib.rt:191:39
+-- src/lib.rt:76:39
 seek-sub-seek-3 : (t : ℕ) → seek-lts.Need-sub-seek-3 (
   is-free-reads.Asked,
   is-free-reads.Learnt,
+  seek-row-reads.Asked,
+  seek-row-reads.Learnt,
   passed-reads.Asked,
   passed-reads.Learnt,
   seek-below t,
@@ -209,65 +270,77 @@ seek-sub-seek-3 : (t : ℕ) → seek-lts.Need-sub-seek-3 (
 ) (seek-at t) seek.Post
 seek-sub-seek-3 t c = search needs
 
--- src/lib.rt:191:56
+-- src/lib.rt:76:56
 seek-mul-seek-3 : (t : ℕ) → seek-lts.Need-mul-seek-3 (
   is-free-reads.Asked,
   is-free-reads.Learnt,
+  seek-row-reads.Asked,
+  seek-row-reads.Learnt,
   passed-reads.Asked,
   passed-reads.Learnt,
   seek-below t,
   seek.Post,
 ) (seek-at t) seek.Post
-seek-mul-seek-3 t c = let s = block-few _ _ _ (c .before .before .before .before .before .before .before .pre .1 .1 .1) in omega arith
+seek-mul-seek-3 t c = let s = block-few _ _ _ (c .before .before .before .before .before .before .before .before .pre .1 .1 .1 .1) in omega arith
 
--- src/lib.rt:191:56
+-- src/lib.rt:76:56
 seek-add-seek-2 : (t : ℕ) → seek-lts.Need-add-seek-2 (
   is-free-reads.Asked,
   is-free-reads.Learnt,
+  seek-row-reads.Asked,
+  seek-row-reads.Learnt,
   passed-reads.Asked,
   passed-reads.Learnt,
   seek-below t,
   seek.Post,
 ) (seek-at t) seek.Post
-seek-add-seek-2 t c = let s = block-few _ _ _ (c .before .before .before .before .before .before .before .pre .1 .1 .1) in omega arith
+seek-add-seek-2 t c = let s = block-few _ _ _ (c .before .before .before .before .before .before .before .before .pre .1 .1 .1 .1) in omega arith
 
--- src/lib.rt:191:27
+-- src/lib.rt:76:27
 seek-seek-requires-3 : (t : ℕ) → seek-lts.Need-seek-requires-3 (
   is-free-reads.Asked,
   is-free-reads.Learnt,
+  seek-row-reads.Asked,
+  seek-row-reads.Learnt,
   passed-reads.Asked,
   passed-reads.Learnt,
   seek-below t,
   seek.Post,
 ) (seek-at t) seek.Post
-seek-seek-requires-3 t c κs = search (needs, half-right, right-reached)
+seek-seek-requires-3 t c κs = (search needs, (search needs, (search needs, (right-reached _ _ _ (c .before .before .before .before .before .before .before .before .pre .1 .0) (c .before .before .before .before .before .if3 .left) (c .before .before .before .before .before .before .before .before .pre .1 .1 .1 .0), half-right _ _ _ _ (c .before .before .before .before .before .before .before .before .pre .1 .1 .0) (c .before .before .before .before .before .before .if1 .left) (c .before .before .before .before .before .before .before .before .pre .1 .1 .1 .1)))))
 
--- src/lib.rt:176:1
-seek-returns-4 : (t : ℕ) → seek-lts.Need-returns-4 (
-  is-free-reads.Asked,
-  is-free-reads.Learnt,
-  passed-reads.Asked,
-  passed-reads.Learnt,
-  seek-below t,
-  seek.Post,
-) (seek-at t) seek.Post
-seek-returns-4 t c = search (needs, from-left)
-
--- src/lib.rt:176:1
+-- src/lib.rt:58:1
 seek-returns-5 : (t : ℕ) → seek-lts.Need-returns-5 (
   is-free-reads.Asked,
   is-free-reads.Learnt,
+  seek-row-reads.Asked,
+  seek-row-reads.Learnt,
   passed-reads.Asked,
   passed-reads.Learnt,
   seek-below t,
   seek.Post,
 ) (seek-at t) seek.Post
-seek-returns-5 t c = search (needs, from-right)
+seek-returns-5 t c = search (needs, from-left)
+
+-- src/lib.rt:58:1
+seek-returns-6 : (t : ℕ) → seek-lts.Need-returns-6 (
+  is-free-reads.Asked,
+  is-free-reads.Learnt,
+  seek-row-reads.Asked,
+  seek-row-reads.Learnt,
+  passed-reads.Asked,
+  passed-reads.Learnt,
+  seek-below t,
+  seek.Post,
+) (seek-at t) seek.Post
+seek-returns-6 t c = search (needs, from-right)
 
 pub +seek-spec : {M : Type 1} → statement M
 +seek-spec = close μ-seek λ t. seek-lts.spec (
   is-free-reads.Asked,
   is-free-reads.Learnt,
+  seek-row-reads.Asked,
+  seek-row-reads.Learnt,
   passed-reads.Asked,
   passed-reads.Learnt,
   seek-below t,
@@ -278,6 +351,8 @@ pub +seek-spec : {M : Type 1} → statement M
     (seek-is-free-requires t)
     (seek-returns t)
     (seek-returns-2 t)
+    (seek-seek-row-requires t)
+    (seek-returns-3 t)
     (seek-sub-passed t)
     (seek-mul-passed t)
     (seek-passed-requires t)
@@ -285,7 +360,7 @@ pub +seek-spec : {M : Type 1} → statement M
     (seek-mul-seek t)
     (seek-add-seek t)
     (seek-seek-requires t)
-    (seek-returns-3 t)
+    (seek-returns-4 t)
     (seek-sub-seek-2 t)
     (seek-mul-seek-2 t)
     (seek-seek-requires-2 t)
@@ -295,5 +370,5 @@ pub +seek-spec : {M : Type 1} → statement M
     (seek-mul-seek-3 t)
     (seek-add-seek-2 t)
     (seek-seek-requires-3 t)
-    (seek-returns-4 t)
     (seek-returns-5 t)
+    (seek-returns-6 t)

@@ -9,8 +9,8 @@ use Rattle.lower.proofs.lower_put.Tie as tie
 use Rattle.lower.proofs.lower_put.Reads as reads
 use Rattle.lower.proofs.lower_put.Lts as lts
 use Rattle.lower.proofs.has_tree.Reads as has-tree-reads
-use Rattle.lower.proofs.is_held.Reads as is-held-reads
-use Rattle.lower.proofs.release.Reads as release-reads
+use Rattle.bits.proofs.is_held.Reads as is-held-reads
+use Rattle.bits.proofs.release.Reads as release-reads
 
 -- src/lib.rt:264:8
 has-tree-requires : tie.Need-has-tree-requires

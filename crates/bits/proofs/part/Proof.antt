@@ -1,0 +1,27 @@
+use Rattle.lower_laws.specs.Power.{one-shl}
+use native.Mathlib.Omega.{arith}
+use lib.Pow.{pow-pos}
+use borrow.Author.Needs.{needs}
+use Rattle.bits.proofs.part.Statement.{statement}
+use Rattle.bits.proofs.part.Tie as tie
+use Rattle.bits.proofs.part.Reads as reads
+use Rattle.bits.proofs.part.Lts as lts
+
+-- src/lib.rt:20:6
+shr-result : tie.Need-shr-result
+shr-result c = search needs
+
+-- src/lib.rt:20:17
+shl-result : tie.Need-shl-result
+shl-result c = search needs
+
+-- src/lib.rt:20:5
+rem-result : tie.Need-rem-result
+rem-result c = rw (one-shl (c .args .n) (c .pre .1)) (pow-pos (c .args .n))
+
+-- src/lib.rt:16:1
+returns : tie.Need-returns
+returns c = rw (one-shl (c .args .n) (c .pre .1))
+
+pub part-spec : {M : Type 1} → statement M
+part-spec = tie.close (tie.spec shr-result shl-result rem-result returns)

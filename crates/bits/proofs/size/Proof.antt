@@ -1,0 +1,18 @@
+use Rattle.lower_laws.specs.Power.{one-shl}
+use native.Mathlib.Omega.{arith}
+use borrow.Author.Needs.{needs}
+use Rattle.bits.proofs.size.Statement.{statement}
+use Rattle.bits.proofs.size.Tie as tie
+use Rattle.bits.proofs.size.Reads as reads
+use Rattle.bits.proofs.size.Lts as lts
+
+-- src/lib.rt:12:5
+shl-result : tie.Need-shl-result
+shl-result c = search needs
+
+-- src/lib.rt:8:1
+returns : tie.Need-returns
+returns c = one-shl (c .args .order) (omega arith)
+
+pub size-spec : {M : Type 1} → statement M
+size-spec = tie.close (tie.spec shl-result returns)

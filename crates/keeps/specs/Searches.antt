@@ -1,0 +1,91 @@
+-- The walks and the searches leave the rules standing. Assumes nothing.
+use mathlib.Core.Path.{_≡_, refl, subst}
+use mathlib.Core.List.{List, []}
+use Prim.Native.Nat.{ℕ, _+_, _-_, _<_}
+use lib.Dec.{ltb}
+use Rattle.rules.specs.Base.{Out, out}
+use Rattle.rules.specs.Words.{Config, hugeOrder, trees, localsOf, slot}
+use Rattle.rules.specs.declared.Name.the-variants.{Any}
+use Rattle.rules.specs.declared.Request.{Request}
+use Rattle.ways.specs.declared.Got.{Got}
+use Rattle.ways.specs.declared.Got.the-variants as Got
+use Rattle.ways.specs.declared.Walk.{Walk}
+use Rattle.ways.specs.declared.Walk.the-variants as Walk
+use Rattle.ways.specs.State.{State, withLook}
+use Rattle.ways.specs.Walk.{place, Candidate, access, Sight, sight, visit, walk, tryList, stopped, searchBest}
+use Rattle.ways.specs.Search.{near, roundedStart, searchFar, searchFrom, searchAndReserve, searchAndSteal}
+use Rattle.word_laws.specs.Sizes.{Size, first-row}
+use Rattle.policy_laws.specs.Accepted.{accepted-says, trees-some}
+use Rattle.hand.specs.Hand.{Kept}
+use Rattle.step_laws.specs.Steps.{ifte-ind}
+use Rattle.step_laws.specs.Walks.{place-lt, Every, every-admit, tried-ind, visit-ind, sight-ind, steps-ind, list-ind}
+use Rattle.keeps.specs.Fine.{Fine, Asks, else-fine}
+use Rattle.keeps.specs.Steals.{stealGlobal-fine}
+use Rattle.keeps.specs.Reserves.{reserveOrSteal-fine}
+
+-- the place for which a walk reserves is one of the class; a stealing walk has none
+abbrev pub PlaceFor : Config → ℕ → Walk → ℕ → Type 0
+PlaceFor c k Walk.Near j = (x : ℕ) × ((x < localsOf (c .places) k) × (j ≡ slot (c .places) k x))
+PlaceFor c k Walk.Far j = (x : ℕ) × ((x < localsOf (c .places) k) × (j ≡ slot (c .places) k x))
+PlaceFor c k Walk.Stealing j = Unit {0}
+
+module _ (c : Config) (sz : Size (c .order)) (q : Request) (A : Asks c q Any) where
+  -- a tree that a walk has found is tried
+  access-fine : (w : Walk) (j : ℕ) → PlaceFor c (q .class) w j → (t : ℕ) → t < trees c → (s : State) → Kept c (s .trees) (s .locals) (s .bits) → Fine c (q .order) Any (s .bits) (access c q w j t s)
+  unfolding access
+  access-fine Walk.Near j p t lt s K = rw (p .1 .1) (reserveOrSteal-fine c sz q A (p .0) (p .1 .0) t lt s K)
+  access-fine Walk.Far j p t lt s K = rw (p .1 .1) (reserveOrSteal-fine c sz q A (p .0) (p .1 .0) t lt s K)
+  access-fine Walk.Stealing j p t lt s K = stealGlobal-fine c sz q Any A t lt (first-row (c .order) sz t) s K
+
+  -- what holds in a walk: the route so far is fine, and the list has trees that exist
+  abbrev Seen : List ℕ → Out Got Sight → Type 0
+  Seen b (out g x) = Fine c (q .order) Any b (out g (x .state)) × Every (λ t. t < trees c) (x .found)
+
+  module _ (w : Walk) (j m : ℕ) (p : PlaceFor c (q .class) w j) (b : List ℕ) where
+    visit-seen : (t : ℕ) → t < trees c → (xs : List Candidate) (s : State) → Kept c (s .trees) (s .locals) (s .bits) × (s .bits ≡ b) → Every (λ t. t < trees c) xs → Seen b (visit c q w j m t xs s)
+    unfolding withLook
+    visit-seen t lt xs s K E =
+        visit-ind (Seen b) c q w j m t xs s
+        (λ _. tried-ind (Fine c (q .order) Any b) (Seen b) xs (access c q w j t (withLook s))
+        (subst (λ (d : List ℕ). Fine c (q .order) Any d (access c q w j t (withLook s))) (K .1) (access-fine w j p t lt (withLook s) (K .0)))
+        (λ g v F. (F, E)))
+        (λ _. (K, E))
+        (λ _. (K, every-admit (λ t. t < trees c) m _ t lt xs E))
+
+    pub searchBest-fine : (start first last : ℕ) (s : State) → Kept c (s .trees) (s .locals) (s .bits) → s .bits ≡ b → Fine c (q .order) Any b (searchBest c q w j m (trees c) start first last s)
+    unfolding searchBest walk stopped
+    searchBest-fine start first last s K e =
+        sight-ind (Seen b) (Fine c (q .order) Any b) (walk c q w j m (trees c) start first last [] s) stopped (tryList c q w j)
+        (steps-ind c q w j m (trees c) start (λ i xs v. Seen b (out Got.Missed (sight xs v))) (λ i v. Seen b v) (Seen b)
+        (λ i xs v I. visit-seen (place (trees c) start i) (place-lt (trees c) start i (trees-some c (accepted-says c (K .config)))) xs v (I .0) (I .1))
+        (λ i f k x I. I) (λ i x I. I) (λ i t x I. I) (λ i x I. I)
+        (last - first) first (first + (last - first)) refl (λ xs v I. I) [] s ((K, e), tt))
+        (λ f k x I. I .0)
+        (λ x I. list (x .found) (I .1) (x .state) (I .0))
+        (λ t x I. list (x .found) (I .1) (x .state) (I .0))
+        (λ x I. I .0)
+      where
+        list : (xs : List Candidate) → Every (λ t. t < trees c) xs → (v : State) → Fine c (q .order) Any b (out Got.Missed v) → Fine c (q .order) Any b (tryList c q w j xs v)
+        list = list-ind c q w j (λ t. t < trees c) (Fine c (q .order) Any b)
+            (λ t v lt F. subst (λ (d : List ℕ). Fine c (q .order) Any d (access c q w j t v)) (F .1) (access-fine w j p t lt v (F .0)))
+            (λ t v F. F)
+
+  -- ---- stealing search
+  pub searchAndSteal-fine : (start : ℕ) (s : State) → Kept c (s .trees) (s .locals) (s .bits) → Fine c (q .order) Any (s .bits) (searchAndSteal c q start s)
+  unfolding searchAndSteal
+  searchAndSteal-fine start s K = searchBest-fine Walk.Stealing 0 8 tt (s .bits) start 0 (trees c) s K refl
+
+  -- ---- reserving search, for index x of the class
+  module _ (x : ℕ) (lx : x < localsOf (c .places) (q .class)) where
+    far-fine : (start : ℕ) (s : State) → Kept c (s .trees) (s .locals) (s .bits) → Fine c (q .order) Any (s .bits) (searchFar c q (slot (c .places) (q .class) x) start s)
+    unfolding searchFar
+    far-fine start s K = searchBest-fine Walk.Far (slot (c .places) (q .class) x) 8 (x, (lx, refl)) (s .bits) start 0 (trees c) s K refl
+
+    pub searchAndReserve-fine : (start : ℕ) (s : State) → Kept c (s .trees) (s .locals) (s .bits) → Fine c (q .order) Any (s .bits) (searchAndReserve c q (slot (c .places) (q .class) x) start s)
+    unfolding searchAndReserve searchFrom
+    searchAndReserve-fine start s K =
+        ifte-ind (Fine c (q .order) Any (s .bits)) (ltb (q .order) (hugeOrder (c .order))) _ _
+        (λ _. else-fine c (q .order) Any (s .bits) _ _
+        (searchBest-fine Walk.Near (slot (c .places) (q .class) x) 3 (x, (lx, refl)) (s .bits) (roundedStart (trees c) start) 1 (near (trees c)) s K refl)
+        (λ v Kv. far-fine (roundedStart (trees c) start) v Kv))
+        (λ _. far-fine (roundedStart (trees c) start) s K)

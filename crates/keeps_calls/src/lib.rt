@@ -1,0 +1,1 @@
+// Every call leaves the standing rules standing: in specs/. No function.

@@ -1,0 +1,5 @@
+-- the moves between states with something in hand
+pub mod Here
+pub mod Moves
+pub mod Entries
+pub mod Locals

@@ -1,0 +1,1 @@
+// The moves between states with something in hand: in specs/. No function.

@@ -1,0 +1,5 @@
+-- one law for each step of a call: what holds of every way on, holds of the step
+pub mod Steps
+pub mod Walks
+pub mod Payers
+pub mod Answers

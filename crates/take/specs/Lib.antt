@@ -1,0 +1,2 @@
+-- the top up in the terms of the code
+pub mod TopUp
