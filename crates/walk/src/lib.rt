@@ -10,7 +10,7 @@ ghost use mathlib.Core.List.{[]};
 ghost use Prim.Native.Nat.{_+_, _^_, _<_, _≤_};
 ghost use Rattle.rules.specs.Words.{config};
 ghost use Rattle.ways.specs.State.{st, ended};
-ghost use Rattle.ways.specs.Walk.{access, visit, walk, tryList, searchBest};
+ghost use Rattle.ways.specs.Walk.{visit, walk, tryList, searchBest};
 ghost use Rattle.ways.specs.Fits.{Fits};
 ghost use Rattle.best.specs.List.{listOf};
 ghost use Rattle.walk.specs.Seen.{sighted};
@@ -39,7 +39,7 @@ pub fn visit(
     let e = trees::load(trees, t);
     let r = best::rate(h, table, q, w, e);
     if r == 258 {
-        let a = access(
+        let a = steal::access(
             h,
             table,
             trees,
@@ -160,7 +160,7 @@ pub fn try_list(
             };
         }
         let t = (x % 0x1_0000_0000) as usize;
-        let a = access(h, table, trees, locals, bits, q, w, j, t, seen, asked);
+        let a = steal::access(h, table, trees, locals, bits, q, w, j, t, seen, asked);
         let g = a.got;
         if best::ends(g) {
             return a;
@@ -212,31 +212,4 @@ pub fn search_best(
     }
     let list = s.best;
     try_list(h, table, trees, locals, bits, q, w, j, m, list, s.looks, s.tries)
-}
-
-// STUB
-// A tree that a walk has found is tried.
-pub fn access(
-    h: Header,
-    table: &[u32; 64],
-    trees: &mut [u32],
-    locals: &mut [u64],
-    bits: &mut [u64],
-    q: Request,
-    walk: Walk,
-    j: usize,
-    t: usize,
-    looks: usize,
-    tries: usize,
-) -> Routed
-    requires { ⌜ Fits h q × ((t < 2 ^ 53) × ((looks < 2 ^ 32) × (tries < 2 ^ 32))) ⌝ }
-    ensures { λ r. ⌜ (ended r (now (trees .exit)) (now (locals .exit)) (now (bits .exit))
-      ≡ access (config h (now (table .entry))) q walk j t (st (now (trees .entry)) (now (locals .entry)) (now (bits .entry)) looks tries))
-      × ((r .looks ≤ looks) × (r .tries ≤ tries + 1)) ⌝ }
-{
-    Routed {
-        got: Got::Missed,
-        looks: looks,
-        tries: tries,
-    }
 }

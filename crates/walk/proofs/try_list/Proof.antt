@@ -14,7 +14,7 @@ use Rattle.walk.proofs.try_list.Tie as tie
 use Rattle.walk.proofs.try_list.Reads as reads
 use Rattle.walk.proofs.try_list.Lts as lts
 use Rattle.best.proofs.ends.Reads as ends-reads
-use Rattle.walk.proofs.access.Reads as access-reads
+use Rattle.steal.proofs.access.Reads as access-reads
 
 -- the trees tried, the counts, the lengths; the list from here is the list from the start
 record Inv (m looks tries : ℕ) (best trees₀ locals₀ bits₀ trees locals bits : List ℕ) (seen asked k : ℕ) (same : Type 0) : Type 0 where

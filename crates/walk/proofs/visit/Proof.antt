@@ -11,7 +11,7 @@ use Rattle.best.proofs.admit.Reads as admit-reads
 use Rattle.best.proofs.key.Reads as key-reads
 use Rattle.best.proofs.rate.Reads as rate-reads
 use Rattle.trees.proofs.load.Reads as load-reads
-use Rattle.walk.proofs.access.Reads as access-reads
+use Rattle.steal.proofs.access.Reads as access-reads
 
 -- src/lib.rt:39:9
 load-requires : tie.Need-load-requires
