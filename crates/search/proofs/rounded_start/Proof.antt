@@ -42,9 +42,10 @@ returns c =
     let l = c .before .before .before .loop in
     let a = c .before .before .before .before .before .args in
     let p = c .before .before .before .before .before .pre in
-    let h : 2 * near (a .n) ≤ 2 ^ l .e = omega (arith, c .if1 .taken, c .before .size .ensures, l .inv .1 .0) in
-    (rw (shifted (a .start) (l .e) (p .1)) (round-at (a .n) (a .start) (l .e) (c .before .before .loop-test .taken) (l .inv .1 .1) h),
-    rw (shifted (a .start) (l .e) (p .1)) (div-mul-le-self (a .start) (2 ^ l .e)))
+    let h : 2 * near (a .n) ≤ 2 ^ l .e = omega (arith, c .if1 .taken, c .before .size .ensures, l .inv .1 .0) in (
+      rw (shifted (a .start) (l .e) (p .1)) (round-at (a .n) (a .start) (l .e) (c .before .before .loop-test .taken) (l .inv .1 .1) h),
+      rw (shifted (a .start) (l .e) (p .1)) (div-mul-le-self (a .start) (2 ^ l .e)),
+    )
 
 add-e : tie.Need-add-e Inv-loop μ-loop
 add-e c = search needs

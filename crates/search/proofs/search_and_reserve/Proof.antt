@@ -29,10 +29,14 @@ same-length-3 c = search needs
 
 returns : tie.Need-returns
 unfolding searchAndReserve
-returns c =
-    (rw (← c .before .before .before .before .before .before .before .before .before .before .before .count .ensures .0,
+returns c = (
+  rw (
+    ← c .before .before .before .before .before .before .before .before .before .before .before .count .ensures .0,
     ← c .before .before .before .before .before .before .before .before .before .before .rounded-start .ensures .0,
-    ← c .before .before .before .before .before .before .search-from .ensures .0), search needs)
+    ← c .before .before .before .before .before .before .search-from .ensures .0,
+  ),
+  search needs,
+)
 
 pub search-and-reserve-spec : {M : Type 1} → statement M
 search-and-reserve-spec =

@@ -25,9 +25,13 @@ same-length-3 c = search needs
 
 returns : tie.Need-returns
 unfolding searchFar
-returns c =
-    (rw (← c .before .before .before .before .before .before .before .before .before .before .count .ensures .0,
-    ← c .before .before .before .before .before .before .search-best .ensures .0), search needs)
+returns c = (
+  rw (
+    ← c .before .before .before .before .before .before .before .before .before .before .count .ensures .0,
+    ← c .before .before .before .before .before .before .search-best .ensures .0,
+  ),
+  search needs,
+)
 
 pub search-far-spec : {M : Type 1} → statement M
 search-far-spec =

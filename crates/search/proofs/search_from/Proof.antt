@@ -39,12 +39,16 @@ same-length-3 c = search needs
 
 returns : tie.Need-returns
 unfolding searchFrom ifte
-returns c =
-    (rw (lt-ltb _ _ (c .before .before .before .before .before .before .before .before .before .before .before .before .before .before .if1 .taken),
+returns c = (
+  rw (
+    lt-ltb _ _ (c .before .before .before .before .before .before .before .before .before .before .before .before .before .before .if1 .taken),
     ← c .before .before .before .before .before .before .before .before .before .before .before .before .before .count .ensures .0,
     ← c .before .before .before .before .before .before .before .before .before .before .before .before .near .ensures .0,
     ← c .before .before .before .before .before .before .before .before .search-best .ensures .0,
-    else-ends _ _ _ (sym (c .before .ends .ensures) ∙ c .if2 .taken)), search needs)
+    else-ends _ _ _ (sym (c .before .ends .ensures) ∙ c .if2 .taken),
+  ),
+  search needs,
+)
 
 search-far-requires : tie.Need-search-far-requires
 search-far-requires c κs =
@@ -64,13 +68,17 @@ same-length-6 c = search needs
 
 returns-2 : tie.Need-returns-2
 unfolding searchFrom ifte
-returns-2 c =
-    (rw (lt-ltb _ _ (c .before .before .before .before .before .before .before .before .before .before .before .before .before .before .before .before .before .before .before .before .before .before .before .before .if1 .taken),
+returns-2 c = (
+  rw (
+    lt-ltb _ _ (c .before .before .before .before .before .before .before .before .before .before .before .before .before .before .before .before .before .before .before .before .before .before .before .before .if1 .taken),
     ← c .before .before .before .before .before .before .before .before .before .before .before .before .before .before .before .before .before .before .before .before .before .before .before .count .ensures .0,
     ← c .before .before .before .before .before .before .before .before .before .before .before .before .before .before .before .before .before .before .before .before .before .before .near .ensures .0,
     ← c .before .before .before .before .before .before .before .before .before .before .before .before .before .before .before .before .before .before .search-best .ensures .0,
     else-goes _ _ _ (sym (c .before .before .before .before .before .before .before .before .before .before .before .ends .ensures) ∙ c .before .before .before .before .before .before .before .before .before .before .if2 .left),
-    ← c .before .before .before .before .before .before .search-far .ensures .0), search needs)
+    ← c .before .before .before .before .before .before .search-far .ensures .0,
+  ),
+  search needs,
+)
 
 search-far-requires-2 : tie.Need-search-far-requires-2
 search-far-requires-2 c κs = search needs
@@ -86,9 +94,13 @@ same-length-9 c = search needs
 
 returns-3 : tie.Need-returns-3
 unfolding searchFrom ifte
-returns-3 c =
-    (rw (le-ltb _ _ (c .before .before .before .before .before .before .before .before .before .before .if1 .left),
-    ← c .before .before .before .before .before .before .search-far2 .ensures .0), search needs)
+returns-3 c = (
+  rw (
+    le-ltb _ _ (c .before .before .before .before .before .before .before .before .before .before .if1 .left),
+    ← c .before .before .before .before .before .before .search-far2 .ensures .0,
+  ),
+  search needs,
+)
 
 pub search-from-spec : {M : Type 1} → statement M
 search-from-spec =
