@@ -1,0 +1,3 @@
+-- the number of trees, the start rounded down
+pub mod Count
+pub mod Rounded

@@ -1,0 +1,2 @@
+-- laws of the walk, with no program in them
+pub mod Looks

@@ -1,0 +1,1 @@
+// No function: laws of the walk are in specs/.
