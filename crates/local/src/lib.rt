@@ -81,12 +81,12 @@ pub fn put(locals: &mut [u64], j: usize, tree: usize, n: usize) -> bool
     requires { ⌜ n < 2 ^ 32 ⌝ }
     ensures { λ r. ⌜ out r (now (locals .exit)) ≡ localPut 11 (now (locals .entry)) j tree n ⌝ }
 {
-    let l = load(locals, j);
-    if l.present {
-        if l.row / 32 == tree {
+    let held = load(locals, j);
+    if held.present {
+        if held.row / 32 == tree {
             let more = Local {
-                row: l.row,
-                free: l.free + n,
+                row: held.row,
+                free: held.free + n,
                 present: true,
             };
             store(locals, j, words::local_word(more));
@@ -123,9 +123,9 @@ pub fn swap(locals: &mut [u64], j: usize, new: Local) -> Local
 pub fn clear(locals: &mut [u64], j: usize) -> Local
     ensures { λ r. ⌜ (out r (now (locals .exit)) ≡ localClear (now (locals .entry)) j) × (r .free < 2 ^ 19) ⌝ }
 {
-    let old = load(locals, j);
+    let gone = load(locals, j);
     store(locals, j, 0);
-    old
+    gone
 }
 
 // Whether a local has enough, and the named tree.

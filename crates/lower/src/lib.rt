@@ -20,14 +20,16 @@ fn seek_word(w: u64, order: usize, want: usize, index: usize) -> usize
         }
         return 64;
     }
-    if bits::word_held(w, order - 1, index * 2) {
-        return seek_word(w, order - 1, want, index * 2 + 1);
+    let left = index * 2;
+    let right = index * 2 + 1;
+    if bits::word_held(w, order - 1, left) {
+        return seek_word(w, order - 1, want, right);
     }
-    let i = seek_word(w, order - 1, want, index * 2);
+    let i = seek_word(w, order - 1, want, left);
     if i < 64 {
         return i;
     }
-    seek_word(w, order - 1, want, index * 2 + 1)
+    seek_word(w, order - 1, want, right)
 }
 
 // The first wholly free block of the order `want` in a row.
@@ -68,12 +70,14 @@ fn seek(words: &[u64], order: usize, want: usize, index: usize, row: usize) -> F
     if order == 6 {
         return seek_row(words, want, index);
     }
-    if passed(words, order - 1, index * 2, row) {
-        return seek(words, order - 1, want, index * 2 + 1, row);
+    let left = index * 2;
+    let right = index * 2 + 1;
+    if passed(words, order - 1, left, row) {
+        return seek(words, order - 1, want, right, row);
     }
-    match seek(words, order - 1, want, index * 2, row) {
+    match seek(words, order - 1, want, left, row) {
         Found::At(i) => Found::At(i),
-        Found::Nothing => seek(words, order - 1, want, index * 2 + 1, row),
+        Found::Nothing => seek(words, order - 1, want, right, row),
     }
 }
 

@@ -2,16 +2,16 @@
 use mathlib.Core.Path.{_≡_, refl, sym, ap, ap₂, _∙_}
 use mathlib.Core.Bool.{Bool, true, false}
 use mathlib.Core.List.{List}
-use Prim.Native.Nat.{ℕ, zero, suc, _+_, _-_, _*_, _/_, _%_, _^_, _<_, _≤_}
+use Prim.Native.Nat.{ℕ, zero, suc, _+_, _-_, _*_, _/_, _%_, _^_, _≤_}
 use native.Mathlib.Nat.{mul-assoc, mul-le-mul-right, add-mul}
 use native.Mathlib.Omega.{arith}
-use lib.ListN.{getD, length}
+use lib.ListN.{getD}
 use Rattle.rules.specs.Base.{sum}
-use Rattle.rules.specs.Words.{treeFrames, treeRows}
+use Rattle.rules.specs.Words.{treeFrames}
 use Rattle.rules.specs.Lower.{bitAt, held, heldIn, clearBits, clear, mark}
 use Rattle.lower_laws.specs.Cases.{by-side}
 use Rattle.lower_laws.specs.Power.{tree-words, Inside}
-use Rattle.lower_laws.specs.Sum.{sum-none, sum-one, sum-add, sum-ext, sum-shift}
+use Rattle.lower_laws.specs.Sum.{sum-one, sum-add, sum-ext, sum-shift}
 use Rattle.lower_laws.specs.Block.{Block}
 use Rattle.lower_laws.specs.Held.{held-bits, held-add}
 use Rattle.lower_laws.specs.Run.{run-none}

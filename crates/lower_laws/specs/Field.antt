@@ -1,15 +1,14 @@
 -- The n bits of w from bit s on, put anew. Assumes nothing.
-use mathlib.Core.Path.{_≡_, refl, sym, ap, ap₂, subst, _∙_}
+use mathlib.Core.Path.{_≡_, sym, ap, _∙_}
 use Prim.Native.Nat.{ℕ, zero, suc, _+_, _-_, _*_, _/_, _%_, _^_, _<_, _≤_}
-use native.Mathlib.Nat.{add-assoc, add-comm, mul-assoc, add-mul, mod-lt, mod-eq-of-lt, le-dest, zero-div, not-suc-le-zero, le-of-suc-le-suc, lt-of-lt-of-le, le-of-eq, add-zero, zero-add}
+use native.Mathlib.Nat.{add-assoc, add-mul, mod-lt, mod-eq-of-lt, le-dest, zero-div, not-suc-le-zero, le-of-suc-le-suc, zero-add}
 use native.Mathlib.Numerals.{one-add}
 use native.Mathlib.Omega.{arith}
 use lib.Arith.{digits-lt}
 use lib.Bits.{block-half, block-odd}
 use lib.Count.{ones, ones-ones}
-use lib.Pow.{shl-exact, shr-shr, shr-lt, high, low, split, pow-pos, pow-add, ones-lt, mod-pow-add}
+use lib.Pow.{shl-exact, shr-shr, shr-lt, high, split, pow-pos, pow-add, ones-lt}
 use Rattle.lower_laws.specs.Power.{one-shl}
-use Rattle.rules.specs.Base.{sum}
 use Rattle.rules.specs.Lower.{bitAt, putField}
 use Rattle.lower_laws.specs.Sum.{one-at}
 use Rattle.lower_laws.specs.Held.{bits-ones}

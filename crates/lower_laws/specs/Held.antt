@@ -2,16 +2,16 @@
 use mathlib.Core.Path.{_≡_, refl, sym, ap, ap₂, _∙_}
 use mathlib.Core.List.{List}
 use Prim.Native.Nat.{ℕ, zero, suc, _+_, _*_, _/_, _%_, _^_, _<_, _≤_}
-use native.Mathlib.Nat.{add-zero, add-comm, mod-lt}
-use native.Mathlib.Numerals.{add-one, one-add}
+use native.Mathlib.Nat.{mod-lt}
+use native.Mathlib.Numerals.{one-add}
 use native.Mathlib.Omega.{arith}
-use lib.ListN.{getD, length}
-use lib.Count.{ones, ones-step, ones-cat}
+use lib.ListN.{getD}
+use lib.Count.{ones, ones-cat}
 use lib.Pow.{mod-pow-add, shr-shr, pow-pos}
 use Rattle.lower_laws.specs.Power.{in-word, whole}
 use Rattle.rules.specs.Base.{sum}
 use Rattle.rules.specs.Lower.{bitAt, bit, held, heldIn}
-use Rattle.lower_laws.specs.Sum.{sum-none, sum-add, sum-shift, sum-ext, sum-le}
+use Rattle.lower_laws.specs.Sum.{sum-add, sum-shift, sum-ext, sum-le}
 
 pub bit-le : (ws : List ℕ) (f : ℕ) → bit ws f ≤ 1
 bit-le ws f = omega arith

@@ -2,12 +2,12 @@
 use mathlib.Core.Path.{_≡_, refl, sym, ap, _∙_, subst}
 use mathlib.Core.Bool.{Bool, true, false}
 use mathlib.Core.List.{List}
-use Prim.Native.Nat.{ℕ, zero, suc, _+_, _-_, _*_, _/_, _%_, _^_, _<_, _≤_}
+use Prim.Native.Nat.{ℕ, suc, _+_, _-_, _*_, _/_, _^_, _<_, _≤_}
 use native.Mathlib.Nat.{mul-le-mul-right, mul-assoc, add-mul, div-mul-le-self}
 use native.Mathlib.Omega.{arith}
 use lib.Dec.{eqb, leb, ltb}
 use lib.ListN.{length}
-use lib.Pow.{pow-mono, pow-pos}
+use lib.Pow.{pow-mono}
 use borrow.Author.Tests.{leb-true, ltb-true, eqb-true, eqb-false}
 use Rattle.rules.specs.Base.{pick, both, Out, out}
 use Rattle.rules.specs.Words.{treeFrames, treeRows}
@@ -18,7 +18,7 @@ use Rattle.rules.specs.declared.Name.{Name}
 use Rattle.rules.specs.declared.Name.the-variants.{Any, Frame}
 use Rattle.lower_laws.specs.Power.{Inside, in-tree, tree-words}
 use Rattle.lower_laws.specs.Block.{Block, block-of}
-use Rattle.lower_laws.specs.Search.{FreeIn, search-found}
+use Rattle.lower_laws.specs.Search.{search-found}
 
 both-left : (a b : Bool) → both a b ≡ true → a ≡ true
 both-left true b h = refl
@@ -52,6 +52,11 @@ module _ (z : ℕ) (ws : List ℕ) (t : ℕ) (least : 6 ≤ z) (most : z ≤ 18)
       let p : 2 ^ z ≡ 2 ^ (z - 6) * 64 = tree-words z least in
       let q : t * 2 ^ z ≡ t * 2 ^ (z - 6) * 64 = ap (λ (x : ℕ). t * x) p ∙ sym (mul-assoc t (2 ^ (z - 6)) 64) in
       record { order = most; inside = omega (arith, has-words); small = has-small }
+
+-- it is a matter of the length alone
+pub has-same : (z : ℕ) (ws us : List ℕ) (t : ℕ) → length us ≡ length ws → hasTree z us t ≡ hasTree z ws t
+unfolding hasTree
+has-same z ws us t e = rw e
 
 -- the tree in which a get seeks: that of the named frame, or of the hint's row
 abbrev pub soughtTree : ℕ → ℕ → Name → ℕ

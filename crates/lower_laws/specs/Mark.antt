@@ -1,5 +1,5 @@
 -- A block's frames all held, or all free: exactly its own bits change, and so do the counts. Assumes nothing.
-use mathlib.Core.Path.{_≡_, refl, sym, ap, ap₂, subst, _∙_}
+use mathlib.Core.Path.{_≡_, refl, sym, ap, ap₂, _∙_}
 use mathlib.Core.Bool.{Bool, true, false}
 use mathlib.Core.Logic.{⊎-elim}
 use mathlib.Core.List.{List}
@@ -12,8 +12,8 @@ use lib.ListN.{getD, length, set, length-set}
 use lib.Seq.{getD-set-same, getD-set-other}
 use lib.Pow.{pow-pos, ones-lt}
 use borrow.Author.Tests.{ltb-true, ltb-false}
-use Rattle.rules.specs.Base.{pick, bitOf, sum}
-use Rattle.rules.specs.Lower.{bitAt, bit, held, heldIn, putField, full, setWords, setPart, mark}
+use Rattle.rules.specs.Base.{bitOf, sum}
+use Rattle.rules.specs.Lower.{bitAt, bit, held, putField, full, setWords, setPart, mark}
 use Rattle.lower_laws.specs.Cases.{by-eq, below-or}
 use Rattle.lower_laws.specs.Block.{Block}
 use Rattle.lower_laws.specs.Sum.{sum-add, sum-ext, sum-all, sum-zero}

@@ -1,16 +1,15 @@
 -- A block set and cleared, over numbers: n is 2^o as the code has it. Assumes nothing.
-use mathlib.Core.Path.{_≡_, refl, sym, ap, ap₂, _∙_}
-use mathlib.Core.Bool.{Bool, true, false}
+use mathlib.Core.Path.{_≡_, sym, _∙_}
+use mathlib.Core.Bool.{Bool}
 use mathlib.Core.List.{List}
-use Prim.Native.Nat.{ℕ, zero, suc, _+_, _-_, _*_, _/_, _%_, _^_, _<_, _≤_}
+use Prim.Native.Nat.{ℕ, _+_, _-_, _*_, _/_, _%_, _^_, _<_, _≤_}
 use native.Mathlib.Nat.{mod-lt}
 use native.Mathlib.Omega.{arith}
-use lib.ListN.{getD, length, set}
+use lib.ListN.{getD, set}
 use lib.Pow.{pow-pos, pow-lt}
 use borrow.Author.Tests.{lt-ltb, le-ltb}
 use Rattle.lower_laws.specs.Power.{in-word}
-use Rattle.rules.specs.Lower.{held, heldIn, putField, full, setWords, mark}
-use Rattle.lower_laws.specs.Block.{Block}
+use Rattle.rules.specs.Lower.{heldIn, putField, full, setWords, mark}
 use Rattle.lower_laws.specs.Held.{held-part}
 use Rattle.lower_laws.specs.Ones.{ones-none, ones-every}
 

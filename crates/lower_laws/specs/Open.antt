@@ -1,16 +1,16 @@
 -- The first word from a row on that has a clear bit: a search for a small block upward from the row may begin there. Assumes nothing.
 use mathlib.Core.Path.{_≡_, refl, sym, ap, _∙_}
-use mathlib.Core.Bool.{Bool, true, false, not}
+use mathlib.Core.Bool.{Bool, false, not}
 use mathlib.Core.Logic.{⊎-elim}
 use mathlib.Core.List.{List}
-use Prim.Native.Nat.{ℕ, zero, suc, _+_, _-_, _*_, _/_, _%_, _^_, _<_, _≤_}
+use Prim.Native.Nat.{ℕ, suc, _+_, _-_, _*_, _/_, _%_, _^_, _<_, _≤_}
 use native.Mathlib.Nat.{mul-assoc, mul-le-mul-right, add-mul, mod-lt, div-lt-iff-lt-mul}
 use native.Mathlib.Omega.{arith}
 use lib.Dec.{eqb, leb}
 use lib.ListN.{getD}
 use lib.Pow.{pow-pos, pow-add, split, shl-shr, shr-mono}
-use borrow.Author.Tests.{lt-leb, ne-eqb, eq-eqb, eqb-true, not-true, not-false}
-use Rattle.rules.specs.Base.{both, firstIn}
+use borrow.Author.Tests.{lt-leb, ne-eqb, eq-eqb, eqb-true, not-false}
+use Rattle.rules.specs.Base.{firstIn}
 use Rattle.rules.specs.Words.{treeRows}
 use Rattle.rules.specs.Lower.{held, heldIn, hit}
 use Rattle.rules.specs.declared.Found.{Found}

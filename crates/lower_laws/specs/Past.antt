@@ -1,8 +1,8 @@
 -- Whether every frame from f to the bitmap's end is held: the rest of f's word, then whole words. Assumes nothing.
-use mathlib.Core.Path.{_≡_, refl, sym, ap, ap₂, _∙_}
+use mathlib.Core.Path.{_≡_, sym, ap, _∙_}
 use mathlib.Core.Bool.{Bool, true, false}
 use mathlib.Core.List.{List}
-use Prim.Native.Nat.{ℕ, zero, suc, _+_, _-_, _*_, _/_, _%_, _^_, _<_, _≤_}
+use Prim.Native.Nat.{ℕ, _+_, _-_, _*_, _/_, _%_, _^_, _<_, _≤_}
 use native.Mathlib.Nat.{mod-eq-of-lt}
 use native.Mathlib.Omega.{arith}
 use lib.Count.{ones, ones-ones}
@@ -10,7 +10,7 @@ use lib.Dec.{eqb}
 use lib.ListN.{getD, length}
 use lib.Pow.{ones-split, ones-lt, high, shr-lt}
 use borrow.Author.Tests.{eq-eqb, ne-eqb}
-use Rattle.rules.specs.Lower.{bit, held}
+use Rattle.rules.specs.Lower.{held}
 use Rattle.lower_laws.specs.Held.{held-word, held-add, held-le}
 use Rattle.lower_laws.specs.Ones.{ones-every, eqb-same}
 use Rattle.lower_laws.specs.Run.{run-none}

@@ -1,8 +1,8 @@
 -- Laws of the sum of f over the n numbers from a. Assumes nothing.
-use mathlib.Core.Path.{_≡_, refl, sym, ap, ap₂, _∙_}
+use mathlib.Core.Path.{_≡_, refl, ap, ap₂, _∙_}
 use mathlib.Core.Logic.{⊎-elim}
 use Prim.Native.Nat.{ℕ, zero, suc, _+_, _<_, _≤_}
-use native.Mathlib.Nat.{add-zero, add-suc, add-assoc, le-of-suc-le-suc, not-suc-le-zero, eq-or-lt-of-le}
+use native.Mathlib.Nat.{add-zero, add-suc, add-assoc, eq-or-lt-of-le}
 use native.Mathlib.Omega.{arith}
 use Rattle.rules.specs.Base.{sum}
 

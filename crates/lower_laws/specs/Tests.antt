@@ -1,8 +1,8 @@
 -- The tests of a block, over numbers: n is 2^o as the code has it. Assumes nothing.
-use mathlib.Core.Path.{_≡_, refl, sym, ap, ap₂, _∙_}
+use mathlib.Core.Path.{_≡_, ap, _∙_}
 use mathlib.Core.Bool.{Bool}
 use mathlib.Core.List.{List}
-use Prim.Native.Nat.{ℕ, zero, suc, _+_, _-_, _*_, _/_, _%_, _^_, _<_, _≤_}
+use Prim.Native.Nat.{ℕ, _+_, _-_, _*_, _/_, _%_, _^_, _<_, _≤_}
 use native.Mathlib.Nat.{mod-lt}
 use native.Mathlib.Omega.{arith}
 use lib.ListN.{getD, length}
@@ -10,7 +10,7 @@ use lib.Dec.{eqb}
 use lib.Pow.{pow-pos, pow-lt}
 use Rattle.rules.specs.Lower.{held, heldIn}
 use Rattle.lower_laws.specs.Block.{Block}
-use Rattle.lower_laws.specs.Power.{one-shl, in-word, whole}
+use Rattle.lower_laws.specs.Power.{one-shl, whole}
 use Rattle.lower_laws.specs.Held.{held-part, held-large}
 use Rattle.lower_laws.specs.Ones.{test-none, test-every}
 

@@ -1,16 +1,16 @@
 -- The search by halves within one word, which is a bitmap by itself: its steps as the code has them, and what it says of the whole bitmap. Assumes nothing.
-use mathlib.Core.Path.{_≡_, refl, sym, ap, ap₂, _∙_}
+use mathlib.Core.Path.{_≡_, refl, sym, ap, _∙_}
 use mathlib.Core.Bool.{Bool, true, false}
 use mathlib.Core.List.{List, [], _∷_}
-use Prim.Native.Nat.{ℕ, zero, suc, _+_, _-_, _*_, _/_, _%_, _^_, _<_, _≤_}
+use Prim.Native.Nat.{ℕ, _+_, _-_, _*_, _/_, _%_, _^_, _<_, _≤_}
 use native.Mathlib.Nat.{mul-assoc, mul-le-mul-left, add-mul}
 use native.Mathlib.Omega.{arith}
 use lib.Dec.{eqb, leb}
-use lib.ListN.{getD, length}
+use lib.ListN.{getD}
 use lib.Pow.{pow-pos, pow-mono}
 use borrow.Author.Tests.{eqb-true, le-leb}
-use Rattle.rules.specs.Base.{pick, both, sum, orFound, firstIn}
-use Rattle.rules.specs.Lower.{bitAt, held, heldIn, hit}
+use Rattle.rules.specs.Base.{firstIn}
+use Rattle.rules.specs.Lower.{held, heldIn, hit}
 use Rattle.rules.specs.declared.Found.{Found}
 use Rattle.rules.specs.declared.Found.the-variants.{At, Nothing}
 use Rattle.lower_laws.specs.Power.{pow-part, inside}

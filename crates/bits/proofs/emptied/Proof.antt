@@ -1,8 +1,8 @@
+-- The proof of emptied. Assumes nothing.
 use native.Mathlib.Omega.{arith}
-use lib.Pow.{pow-pos, ones-lt}
+use lib.Pow.{pow-pos}
 use Rattle.lower_laws.specs.Power.{one-shl}
-use Rattle.rules.specs.Lower.{putField}
-use Rattle.lower_laws.specs.Field.{mask, fill-sum, empty-sum, put-lt}
+use Rattle.lower_laws.specs.Field.{mask, empty-sum}
 use borrow.Author.Needs.{needs}
 use Rattle.bits.proofs.emptied.Statement.{statement}
 use Rattle.bits.proofs.emptied.Tie as tie

@@ -1,8 +1,7 @@
-use native.Mathlib.Omega.{arith}
+-- The proof of filled. Assumes nothing.
 use lib.Pow.{pow-pos, ones-lt}
 use Rattle.lower_laws.specs.Power.{one-shl}
-use Rattle.rules.specs.Lower.{putField}
-use Rattle.lower_laws.specs.Field.{mask, fill-sum, empty-sum, put-lt}
+use Rattle.lower_laws.specs.Field.{mask, fill-sum, put-lt}
 use borrow.Author.Needs.{needs}
 use Rattle.bits.proofs.filled.Statement.{statement}
 use Rattle.bits.proofs.filled.Tie as tie

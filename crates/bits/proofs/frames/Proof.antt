@@ -1,3 +1,4 @@
+-- The proof of frames. Assumes nothing.
 use native.Mathlib.Omega.{arith}
 use Rattle.lower_laws.specs.Power.{at-most}
 use borrow.Author.Needs.{needs}

@@ -1,9 +1,10 @@
+-- The proof of held_words. Assumes nothing.
 use borrow.Author.Needs.{needs}
-use mathlib.Core.Path.{_≡_, sym, _∙_, ap}
-use Prim.Native.Nat.{ℕ, _≤_, _-_, _*_, _+_, _<_, _^_}
+use mathlib.Core.Path.{_≡_, sym}
+use Prim.Native.Nat.{_≤_, _-_, _*_, _+_, _<_, _^_}
 use native.Mathlib.Omega.{arith}
 use lib.ListN.{getD}
-use lib.Count.{ones, ones-le}
+use lib.Count.{ones-le}
 use Rattle.lower_laws.specs.Sum.{sum-none}
 use Rattle.rules.specs.Lower.{held, bit}
 use Rattle.lower_laws.specs.Held.{held-more, held-le}

@@ -1,8 +1,6 @@
-use Rattle.lower_laws.specs.Tests.{shift-lt}
-use Rattle.lower_laws.specs.Tests.{start-small, words-large, free-part, free-large}
-use Rattle.lower_laws.specs.Power.{one-shl}
+-- The proof of is_free. Assumes nothing.
+use Rattle.lower_laws.specs.Tests.{shift-lt, start-small, words-large, free-part, free-large}
 use native.Mathlib.Omega.{arith}
-use lib.Pow.{pow-pos}
 use borrow.Author.Needs.{needs}
 use Rattle.bits.proofs.is_free.Statement.{statement}
 use Rattle.bits.proofs.is_free.Tie as tie

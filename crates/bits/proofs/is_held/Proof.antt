@@ -1,5 +1,5 @@
-use Rattle.lower_laws.specs.Tests.{shift-lt}
-use Rattle.lower_laws.specs.Tests.{start-small, words-large, held-part-test, held-large-test}
+-- The proof of is_held. Assumes nothing.
+use Rattle.lower_laws.specs.Tests.{shift-lt, start-small, words-large, held-part-test, held-large-test}
 use Rattle.lower_laws.specs.Power.{one-shl}
 use native.Mathlib.Omega.{arith}
 use lib.Pow.{pow-pos}

@@ -1,5 +1,5 @@
+-- The proof of part. Assumes nothing.
 use Rattle.lower_laws.specs.Power.{one-shl}
-use native.Mathlib.Omega.{arith}
 use lib.Pow.{pow-pos}
 use borrow.Author.Needs.{needs}
 use Rattle.bits.proofs.part.Statement.{statement}

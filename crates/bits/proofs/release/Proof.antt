@@ -1,6 +1,6 @@
+-- The proof of release. Assumes nothing.
 use Rattle.lower_laws.specs.Tests.{start-small, words-large}
-use Rattle.lower_laws.specs.MarkTests.{field-free, field-held, mark-part, mark-large}
-use mathlib.Core.Bool.{true, false}
+use Rattle.lower_laws.specs.MarkTests.{field-held, mark-part, mark-large}
 use native.Mathlib.Omega.{arith}
 use borrow.Author.Needs.{needs}
 use Rattle.bits.proofs.release.Statement.{statement}

@@ -1,3 +1,4 @@
+-- The proof of word_held. Assumes nothing.
 use native.Mathlib.Omega.{arith}
 use lib.Pow.{pow-pos}
 use Rattle.lower_laws.specs.Power.{one-shl}

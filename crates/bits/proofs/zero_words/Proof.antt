@@ -1,6 +1,7 @@
+-- The proof of zero_words. Assumes nothing.
 use borrow.Author.Needs.{needs}
 use mathlib.Core.Path.{_≡_, sym}
-use Prim.Native.Nat.{ℕ, _≤_, _-_, _*_, _+_}
+use Prim.Native.Nat.{_≤_, _-_, _*_, _+_}
 use native.Mathlib.Omega.{arith}
 use borrow.Author.Tests.{eq-eqb}
 use Rattle.rules.specs.Lower.{held}

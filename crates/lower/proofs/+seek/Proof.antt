@@ -1,3 +1,4 @@
+-- The proof of seek. Assumes nothing.
 use borrow.Author.Needs.{needs}
 use native.Mathlib.Omega.{arith}
 use Rattle.lower_laws.specs.Block.{block-few, half-left, half-right}
@@ -23,7 +24,7 @@ seek-at t = and 1 seek-kinds.ps (is 1 seek-kinds.ps μ-seek t) seek.Pre
 abbrev seek-below : ℕ → In 1 seek-kinds.ps
 seek-below t = and 1 seek-kinds.ps (falls 1 seek-kinds.ps _<_ μ-seek t) seek.Pre
 
--- src/lib.rt:63:12
+-- src/lib.rt:65:12
 seek-is-free-requires : (t : ℕ) → seek-lts.Need-is-free-requires (
   is-free-reads.Asked,
   is-free-reads.Learnt,
@@ -36,7 +37,7 @@ seek-is-free-requires : (t : ℕ) → seek-lts.Need-is-free-requires (
 ) (seek-at t) seek.Post
 seek-is-free-requires t c κs = search needs
 
--- src/lib.rt:64:13
+-- src/lib.rt:66:13
 seek-returns : (t : ℕ) → seek-lts.Need-returns (
   is-free-reads.Asked,
   is-free-reads.Learnt,
@@ -49,7 +50,7 @@ seek-returns : (t : ℕ) → seek-lts.Need-returns (
 ) (seek-at t) seek.Post
 seek-returns t c = search (needs, leaf-yes)
 
--- src/lib.rt:66:9
+-- src/lib.rt:68:9
 seek-returns-2 : (t : ℕ) → seek-lts.Need-returns-2 (
   is-free-reads.Asked,
   is-free-reads.Learnt,
@@ -62,7 +63,7 @@ seek-returns-2 : (t : ℕ) → seek-lts.Need-returns-2 (
 ) (seek-at t) seek.Post
 seek-returns-2 t c = search (needs, leaf-no)
 
--- src/lib.rt:69:9
+-- src/lib.rt:71:9
 seek-seek-row-requires : (t : ℕ) → seek-lts.Need-seek-row-requires (
   is-free-reads.Asked,
   is-free-reads.Learnt,
@@ -75,7 +76,7 @@ seek-seek-row-requires : (t : ℕ) → seek-lts.Need-seek-row-requires (
 ) (seek-at t) seek.Post
 seek-seek-row-requires t c κs = (search needs, rw (c .if3 .taken) at (c .before .before .before .pre .1 .1 .1 .1))
 
--- src/lib.rt:69:9
+-- src/lib.rt:71:9
 seek-returns-3 : (t : ℕ) → seek-lts.Need-returns-3 (
   is-free-reads.Asked,
   is-free-reads.Learnt,
@@ -88,7 +89,46 @@ seek-returns-3 : (t : ℕ) → seek-lts.Need-returns-3 (
 ) (seek-at t) seek.Post
 seek-returns-3 t c = search (needs, at-word)
 
--- src/lib.rt:71:22
+-- src/lib.rt:73:16
+seek-mul-left : (t : ℕ) → seek-lts.Need-mul-left (
+  is-free-reads.Asked,
+  is-free-reads.Learnt,
+  seek-row-reads.Asked,
+  seek-row-reads.Learnt,
+  passed-reads.Asked,
+  passed-reads.Learnt,
+  seek-below t,
+  seek.Post,
+) (seek-at t) seek.Post
+seek-mul-left t c = let s = block-few _ _ _ (c .before .before .before .pre .1 .1 .1 .1) in omega arith
+
+-- src/lib.rt:74:17
+seek-mul-right : (t : ℕ) → seek-lts.Need-mul-right (
+  is-free-reads.Asked,
+  is-free-reads.Learnt,
+  seek-row-reads.Asked,
+  seek-row-reads.Learnt,
+  passed-reads.Asked,
+  passed-reads.Learnt,
+  seek-below t,
+  seek.Post,
+) (seek-at t) seek.Post
+seek-mul-right t c = let s = block-few _ _ _ (c .before .before .before .pre .1 .1 .1 .1) in omega arith
+
+-- src/lib.rt:74:17
+seek-add-right : (t : ℕ) → seek-lts.Need-add-right (
+  is-free-reads.Asked,
+  is-free-reads.Learnt,
+  seek-row-reads.Asked,
+  seek-row-reads.Learnt,
+  passed-reads.Asked,
+  passed-reads.Learnt,
+  seek-below t,
+  seek.Post,
+) (seek-at t) seek.Post
+seek-add-right t c = let s = block-few _ _ _ (c .before .before .before .pre .1 .1 .1 .1) in omega arith
+
+-- src/lib.rt:75:22
 seek-sub-passed : (t : ℕ) → seek-lts.Need-sub-passed (
   is-free-reads.Asked,
   is-free-reads.Learnt,
@@ -101,20 +141,7 @@ seek-sub-passed : (t : ℕ) → seek-lts.Need-sub-passed (
 ) (seek-at t) seek.Post
 seek-sub-passed t c = search needs
 
--- src/lib.rt:71:33
-seek-mul-passed : (t : ℕ) → seek-lts.Need-mul-passed (
-  is-free-reads.Asked,
-  is-free-reads.Learnt,
-  seek-row-reads.Asked,
-  seek-row-reads.Learnt,
-  passed-reads.Asked,
-  passed-reads.Learnt,
-  seek-below t,
-  seek.Post,
-) (seek-at t) seek.Post
-seek-mul-passed t c = let s = block-few _ _ _ (c .before .before .before .pre .1 .1 .1 .1) in omega arith
-
--- src/lib.rt:71:8
+-- src/lib.rt:75:8
 seek-passed-requires : (t : ℕ) → seek-lts.Need-passed-requires (
   is-free-reads.Asked,
   is-free-reads.Learnt,
@@ -127,7 +154,7 @@ seek-passed-requires : (t : ℕ) → seek-lts.Need-passed-requires (
 ) (seek-at t) seek.Post
 seek-passed-requires t c κs = search (needs, half-left)
 
--- src/lib.rt:72:28
+-- src/lib.rt:76:28
 seek-sub-seek : (t : ℕ) → seek-lts.Need-sub-seek (
   is-free-reads.Asked,
   is-free-reads.Learnt,
@@ -140,33 +167,7 @@ seek-sub-seek : (t : ℕ) → seek-lts.Need-sub-seek (
 ) (seek-at t) seek.Post
 seek-sub-seek t c = search needs
 
--- src/lib.rt:72:45
-seek-mul-seek : (t : ℕ) → seek-lts.Need-mul-seek (
-  is-free-reads.Asked,
-  is-free-reads.Learnt,
-  seek-row-reads.Asked,
-  seek-row-reads.Learnt,
-  passed-reads.Asked,
-  passed-reads.Learnt,
-  seek-below t,
-  seek.Post,
-) (seek-at t) seek.Post
-seek-mul-seek t c = let s = block-few _ _ _ (c .before .before .before .before .before .pre .1 .1 .1 .1) in omega arith
-
--- src/lib.rt:72:45
-seek-add-seek : (t : ℕ) → seek-lts.Need-add-seek (
-  is-free-reads.Asked,
-  is-free-reads.Learnt,
-  seek-row-reads.Asked,
-  seek-row-reads.Learnt,
-  passed-reads.Asked,
-  passed-reads.Learnt,
-  seek-below t,
-  seek.Post,
-) (seek-at t) seek.Post
-seek-add-seek t c = let s = block-few _ _ _ (c .before .before .before .before .before .pre .1 .1 .1 .1) in omega arith
-
--- src/lib.rt:72:9
+-- src/lib.rt:76:9
 seek-seek-requires : (t : ℕ) → seek-lts.Need-seek-requires (
   is-free-reads.Asked,
   is-free-reads.Learnt,
@@ -179,7 +180,7 @@ seek-seek-requires : (t : ℕ) → seek-lts.Need-seek-requires (
 ) (seek-at t) seek.Post
 seek-seek-requires t c κs = (search needs, (search needs, (search needs, (right-reached _ _ _ (c .before .before .before .before .before .pre .1 .0) (c .before .before .if3 .left) (c .before .before .before .before .before .pre .1 .1 .1 .0), half-right _ _ _ _ (c .before .before .before .before .before .pre .1 .1 .0) (c .before .before .before .if1 .left) (c .before .before .before .before .before .pre .1 .1 .1 .1)))))
 
--- src/lib.rt:72:9
+-- src/lib.rt:76:9
 seek-returns-4 : (t : ℕ) → seek-lts.Need-returns-4 (
   is-free-reads.Asked,
   is-free-reads.Learnt,
@@ -192,7 +193,7 @@ seek-returns-4 : (t : ℕ) → seek-lts.Need-returns-4 (
 ) (seek-at t) seek.Post
 seek-returns-4 t c = search (needs, right-only)
 
--- src/lib.rt:74:23
+-- src/lib.rt:78:23
 seek-sub-seek-2 : (t : ℕ) → seek-lts.Need-sub-seek-2 (
   is-free-reads.Asked,
   is-free-reads.Learnt,
@@ -205,20 +206,7 @@ seek-sub-seek-2 : (t : ℕ) → seek-lts.Need-sub-seek-2 (
 ) (seek-at t) seek.Post
 seek-sub-seek-2 t c = search needs
 
--- src/lib.rt:74:40
-seek-mul-seek-2 : (t : ℕ) → seek-lts.Need-mul-seek-2 (
-  is-free-reads.Asked,
-  is-free-reads.Learnt,
-  seek-row-reads.Asked,
-  seek-row-reads.Learnt,
-  passed-reads.Asked,
-  passed-reads.Learnt,
-  seek-below t,
-  seek.Post,
-) (seek-at t) seek.Post
-seek-mul-seek-2 t c = let s = block-few _ _ _ (c .before .before .before .before .before .pre .1 .1 .1 .1) in omega arith
-
--- src/lib.rt:74:11
+-- src/lib.rt:78:11
 seek-seek-requires-2 : (t : ℕ) → seek-lts.Need-seek-requires-2 (
   is-free-reads.Asked,
   is-free-reads.Learnt,
@@ -231,7 +219,7 @@ seek-seek-requires-2 : (t : ℕ) → seek-lts.Need-seek-requires-2 (
 ) (seek-at t) seek.Post
 seek-seek-requires-2 t c κs = (search needs, (search needs, (search needs, (left-reached _ _ _ _ _ (c .before .before .before .before .before .pre .1 .0) (c .before .before .before .before .before .pre .1 .1 .0) (c .before .before .before .if1 .left) (c .before .before .if3 .left) _ (c .before .passed .ensures) (c .if4 .left), half-left _ _ _ _ (c .before .before .before .before .before .pre .1 .1 .0) (c .before .before .before .if1 .left) (c .before .before .before .before .before .pre .1 .1 .1 .1)))))
 
--- src/lib.rt:75:19
+-- src/lib.rt:79:19
 seek-enum-known-i : (t : ℕ) → seek-lts.Need-enum-known-i (
   is-free-reads.Asked,
   is-free-reads.Learnt,
@@ -244,7 +232,7 @@ seek-enum-known-i : (t : ℕ) → seek-lts.Need-enum-known-i (
 ) (seek-at t) seek.Post
 seek-enum-known-i t c = search needs
 
--- src/lib.rt:76:39
+-- src/lib.rt:80:39
 seek-enum-told : (t : ℕ) → seek-lts.Need-enum-told (
   is-free-reads.Asked,
   is-free-reads.Learnt,
@@ -257,7 +245,7 @@ seek-enum-told : (t : ℕ) → seek-lts.Need-enum-told (
 ) (seek-at t) seek.Post
 seek-enum-told t c = search needs
 
--- src/lib.rt:76:39
+-- src/lib.rt:80:39
 seek-sub-seek-3 : (t : ℕ) → seek-lts.Need-sub-seek-3 (
   is-free-reads.Asked,
   is-free-reads.Learnt,
@@ -270,33 +258,7 @@ seek-sub-seek-3 : (t : ℕ) → seek-lts.Need-sub-seek-3 (
 ) (seek-at t) seek.Post
 seek-sub-seek-3 t c = search needs
 
--- src/lib.rt:76:56
-seek-mul-seek-3 : (t : ℕ) → seek-lts.Need-mul-seek-3 (
-  is-free-reads.Asked,
-  is-free-reads.Learnt,
-  seek-row-reads.Asked,
-  seek-row-reads.Learnt,
-  passed-reads.Asked,
-  passed-reads.Learnt,
-  seek-below t,
-  seek.Post,
-) (seek-at t) seek.Post
-seek-mul-seek-3 t c = let s = block-few _ _ _ (c .before .before .before .before .before .before .before .before .pre .1 .1 .1 .1) in omega arith
-
--- src/lib.rt:76:56
-seek-add-seek-2 : (t : ℕ) → seek-lts.Need-add-seek-2 (
-  is-free-reads.Asked,
-  is-free-reads.Learnt,
-  seek-row-reads.Asked,
-  seek-row-reads.Learnt,
-  passed-reads.Asked,
-  passed-reads.Learnt,
-  seek-below t,
-  seek.Post,
-) (seek-at t) seek.Post
-seek-add-seek-2 t c = let s = block-few _ _ _ (c .before .before .before .before .before .before .before .before .pre .1 .1 .1 .1) in omega arith
-
--- src/lib.rt:76:27
+-- src/lib.rt:80:27
 seek-seek-requires-3 : (t : ℕ) → seek-lts.Need-seek-requires-3 (
   is-free-reads.Asked,
   is-free-reads.Learnt,
@@ -309,7 +271,7 @@ seek-seek-requires-3 : (t : ℕ) → seek-lts.Need-seek-requires-3 (
 ) (seek-at t) seek.Post
 seek-seek-requires-3 t c κs = (search needs, (search needs, (search needs, (right-reached _ _ _ (c .before .before .before .before .before .before .before .before .pre .1 .0) (c .before .before .before .before .before .if3 .left) (c .before .before .before .before .before .before .before .before .pre .1 .1 .1 .0), half-right _ _ _ _ (c .before .before .before .before .before .before .before .before .pre .1 .1 .0) (c .before .before .before .before .before .before .if1 .left) (c .before .before .before .before .before .before .before .before .pre .1 .1 .1 .1)))))
 
--- src/lib.rt:58:1
+-- src/lib.rt:60:1
 seek-returns-5 : (t : ℕ) → seek-lts.Need-returns-5 (
   is-free-reads.Asked,
   is-free-reads.Learnt,
@@ -322,7 +284,7 @@ seek-returns-5 : (t : ℕ) → seek-lts.Need-returns-5 (
 ) (seek-at t) seek.Post
 seek-returns-5 t c = search (needs, from-left)
 
--- src/lib.rt:58:1
+-- src/lib.rt:60:1
 seek-returns-6 : (t : ℕ) → seek-lts.Need-returns-6 (
   is-free-reads.Asked,
   is-free-reads.Learnt,
@@ -353,22 +315,19 @@ pub +seek-spec : {M : Type 1} → statement M
     (seek-returns-2 t)
     (seek-seek-row-requires t)
     (seek-returns-3 t)
+    (seek-mul-left t)
+    (seek-mul-right t)
+    (seek-add-right t)
     (seek-sub-passed t)
-    (seek-mul-passed t)
     (seek-passed-requires t)
     (seek-sub-seek t)
-    (seek-mul-seek t)
-    (seek-add-seek t)
     (seek-seek-requires t)
     (seek-returns-4 t)
     (seek-sub-seek-2 t)
-    (seek-mul-seek-2 t)
     (seek-seek-requires-2 t)
     (seek-enum-known-i t)
     (seek-enum-told t)
     (seek-sub-seek-3 t)
-    (seek-mul-seek-3 t)
-    (seek-add-seek-2 t)
     (seek-seek-requires-3 t)
     (seek-returns-5 t)
     (seek-returns-6 t)

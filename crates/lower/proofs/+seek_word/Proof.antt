@@ -1,3 +1,4 @@
+-- The proof of seek_word. Assumes nothing.
 use borrow.Author.Needs.{needs}
 use native.Mathlib.Omega.{arith}
 use Rattle.lower_laws.specs.Block.{block-few, half-left, half-right}
@@ -56,7 +57,40 @@ seek-word-returns-2 : (t : ℕ) → seek-word-lts.Need-returns-2 (
 ) (seek-word-at t) seek-word.Post
 seek-word-returns-2 t c = search (needs, word-no)
 
--- src/lib.rt:23:27
+-- src/lib.rt:23:16
+seek-word-mul-left : (t : ℕ) → seek-word-lts.Need-mul-left (
+  word-free-reads.Asked,
+  word-free-reads.Learnt,
+  word-held-reads.Asked,
+  word-held-reads.Learnt,
+  seek-word-below t,
+  seek-word.Post,
+) (seek-word-at t) seek-word.Post
+seek-word-mul-left t c = let s = block-few _ _ _ (c .before .pre .1 .1 .1 .1) in omega arith
+
+-- src/lib.rt:24:17
+seek-word-mul-right : (t : ℕ) → seek-word-lts.Need-mul-right (
+  word-free-reads.Asked,
+  word-free-reads.Learnt,
+  word-held-reads.Asked,
+  word-held-reads.Learnt,
+  seek-word-below t,
+  seek-word.Post,
+) (seek-word-at t) seek-word.Post
+seek-word-mul-right t c = let s = block-few _ _ _ (c .before .pre .1 .1 .1 .1) in omega arith
+
+-- src/lib.rt:24:17
+seek-word-add-right : (t : ℕ) → seek-word-lts.Need-add-right (
+  word-free-reads.Asked,
+  word-free-reads.Learnt,
+  word-held-reads.Asked,
+  word-held-reads.Learnt,
+  seek-word-below t,
+  seek-word.Post,
+) (seek-word-at t) seek-word.Post
+seek-word-add-right t c = let s = block-few _ _ _ (c .before .pre .1 .1 .1 .1) in omega arith
+
+-- src/lib.rt:25:27
 seek-word-sub-word-held : (t : ℕ) → seek-word-lts.Need-sub-word-held (
   word-free-reads.Asked,
   word-free-reads.Learnt,
@@ -67,18 +101,7 @@ seek-word-sub-word-held : (t : ℕ) → seek-word-lts.Need-sub-word-held (
 ) (seek-word-at t) seek-word.Post
 seek-word-sub-word-held t c = search needs
 
--- src/lib.rt:23:38
-seek-word-mul-word-held : (t : ℕ) → seek-word-lts.Need-mul-word-held (
-  word-free-reads.Asked,
-  word-free-reads.Learnt,
-  word-held-reads.Asked,
-  word-held-reads.Learnt,
-  seek-word-below t,
-  seek-word.Post,
-) (seek-word-at t) seek-word.Post
-seek-word-mul-word-held t c = let s = block-few _ _ _ (c .before .pre .1 .1 .1 .1) in omega arith
-
--- src/lib.rt:23:8
+-- src/lib.rt:25:8
 seek-word-word-held-requires : (t : ℕ) → seek-word-lts.Need-word-held-requires (
   word-free-reads.Asked,
   word-free-reads.Learnt,
@@ -89,7 +112,7 @@ seek-word-word-held-requires : (t : ℕ) → seek-word-lts.Need-word-held-requir
 ) (seek-word-at t) seek-word.Post
 seek-word-word-held-requires t c κs = search (needs, half-left)
 
--- src/lib.rt:24:29
+-- src/lib.rt:26:29
 seek-word-sub-seek-word : (t : ℕ) → seek-word-lts.Need-sub-seek-word (
   word-free-reads.Asked,
   word-free-reads.Learnt,
@@ -100,29 +123,7 @@ seek-word-sub-seek-word : (t : ℕ) → seek-word-lts.Need-sub-seek-word (
 ) (seek-word-at t) seek-word.Post
 seek-word-sub-seek-word t c = search needs
 
--- src/lib.rt:24:46
-seek-word-mul-seek-word : (t : ℕ) → seek-word-lts.Need-mul-seek-word (
-  word-free-reads.Asked,
-  word-free-reads.Learnt,
-  word-held-reads.Asked,
-  word-held-reads.Learnt,
-  seek-word-below t,
-  seek-word.Post,
-) (seek-word-at t) seek-word.Post
-seek-word-mul-seek-word t c = let s = block-few _ _ _ (c .before .before .before .pre .1 .1 .1 .1) in omega arith
-
--- src/lib.rt:24:46
-seek-word-add-seek-word : (t : ℕ) → seek-word-lts.Need-add-seek-word (
-  word-free-reads.Asked,
-  word-free-reads.Learnt,
-  word-held-reads.Asked,
-  word-held-reads.Learnt,
-  seek-word-below t,
-  seek-word.Post,
-) (seek-word-at t) seek-word.Post
-seek-word-add-seek-word t c = let s = block-few _ _ _ (c .before .before .before .pre .1 .1 .1 .1) in omega arith
-
--- src/lib.rt:24:9
+-- src/lib.rt:26:9
 seek-word-seek-word-requires : (t : ℕ) → seek-word-lts.Need-seek-word-requires (
   word-free-reads.Asked,
   word-free-reads.Learnt,
@@ -133,7 +134,7 @@ seek-word-seek-word-requires : (t : ℕ) → seek-word-lts.Need-seek-word-requir
 ) (seek-word-at t) seek-word.Post
 seek-word-seek-word-requires t c κs = (search needs, (search needs, (search needs, (search needs, half-right _ _ _ _ (c .before .before .before .pre .1 .0) (c .before .before .if1 .left) (c .before .before .before .pre .1 .1 .1 .1)))))
 
--- src/lib.rt:24:9
+-- src/lib.rt:26:9
 seek-word-returns-3 : (t : ℕ) → seek-word-lts.Need-returns-3 (
   word-free-reads.Asked,
   word-free-reads.Learnt,
@@ -144,7 +145,7 @@ seek-word-returns-3 : (t : ℕ) → seek-word-lts.Need-returns-3 (
 ) (seek-word-at t) seek-word.Post
 seek-word-returns-3 t c = search (needs, word-right)
 
--- src/lib.rt:26:26
+-- src/lib.rt:28:26
 seek-word-sub-seek-word-2 : (t : ℕ) → seek-word-lts.Need-sub-seek-word-2 (
   word-free-reads.Asked,
   word-free-reads.Learnt,
@@ -155,18 +156,7 @@ seek-word-sub-seek-word-2 : (t : ℕ) → seek-word-lts.Need-sub-seek-word-2 (
 ) (seek-word-at t) seek-word.Post
 seek-word-sub-seek-word-2 t c = search needs
 
--- src/lib.rt:26:43
-seek-word-mul-seek-word-2 : (t : ℕ) → seek-word-lts.Need-mul-seek-word-2 (
-  word-free-reads.Asked,
-  word-free-reads.Learnt,
-  word-held-reads.Asked,
-  word-held-reads.Learnt,
-  seek-word-below t,
-  seek-word.Post,
-) (seek-word-at t) seek-word.Post
-seek-word-mul-seek-word-2 t c = let s = block-few _ _ _ (c .before .before .before .pre .1 .1 .1 .1) in omega arith
-
--- src/lib.rt:26:9
+-- src/lib.rt:28:9
 seek-word-seek-word-requires-2 : (t : ℕ) → seek-word-lts.Need-seek-word-requires-2 (
   word-free-reads.Asked,
   word-free-reads.Learnt,
@@ -177,7 +167,7 @@ seek-word-seek-word-requires-2 : (t : ℕ) → seek-word-lts.Need-seek-word-requ
 ) (seek-word-at t) seek-word.Post
 seek-word-seek-word-requires-2 t c κs = (search needs, (search needs, (search needs, (search needs, half-left _ _ _ _ (c .before .before .before .pre .1 .0) (c .before .before .if1 .left) (c .before .before .before .pre .1 .1 .1 .1)))))
 
--- src/lib.rt:28:9
+-- src/lib.rt:30:9
 seek-word-returns-4 : (t : ℕ) → seek-word-lts.Need-returns-4 (
   word-free-reads.Asked,
   word-free-reads.Learnt,
@@ -188,7 +178,7 @@ seek-word-returns-4 : (t : ℕ) → seek-word-lts.Need-returns-4 (
 ) (seek-word-at t) seek-word.Post
 seek-word-returns-4 t c = search (needs, word-left)
 
--- src/lib.rt:30:18
+-- src/lib.rt:32:18
 seek-word-sub-seek-word-3 : (t : ℕ) → seek-word-lts.Need-sub-seek-word-3 (
   word-free-reads.Asked,
   word-free-reads.Learnt,
@@ -199,29 +189,7 @@ seek-word-sub-seek-word-3 : (t : ℕ) → seek-word-lts.Need-sub-seek-word-3 (
 ) (seek-word-at t) seek-word.Post
 seek-word-sub-seek-word-3 t c = search needs
 
--- src/lib.rt:30:35
-seek-word-mul-seek-word-3 : (t : ℕ) → seek-word-lts.Need-mul-seek-word-3 (
-  word-free-reads.Asked,
-  word-free-reads.Learnt,
-  word-held-reads.Asked,
-  word-held-reads.Learnt,
-  seek-word-below t,
-  seek-word.Post,
-) (seek-word-at t) seek-word.Post
-seek-word-mul-seek-word-3 t c = let s = block-few _ _ _ (c .before .before .before .before .before .pre .1 .1 .1 .1) in omega arith
-
--- src/lib.rt:30:35
-seek-word-add-seek-word-2 : (t : ℕ) → seek-word-lts.Need-add-seek-word-2 (
-  word-free-reads.Asked,
-  word-free-reads.Learnt,
-  word-held-reads.Asked,
-  word-held-reads.Learnt,
-  seek-word-below t,
-  seek-word.Post,
-) (seek-word-at t) seek-word.Post
-seek-word-add-seek-word-2 t c = let s = block-few _ _ _ (c .before .before .before .before .before .pre .1 .1 .1 .1) in omega arith
-
--- src/lib.rt:30:5
+-- src/lib.rt:32:5
 seek-word-seek-word-requires-3 : (t : ℕ) → seek-word-lts.Need-seek-word-requires-3 (
   word-free-reads.Asked,
   word-free-reads.Learnt,
@@ -257,20 +225,17 @@ pub +seek-word-spec : {M : Type 1} → statement M
     (seek-word-word-free-requires t)
     (seek-word-returns t)
     (seek-word-returns-2 t)
+    (seek-word-mul-left t)
+    (seek-word-mul-right t)
+    (seek-word-add-right t)
     (seek-word-sub-word-held t)
-    (seek-word-mul-word-held t)
     (seek-word-word-held-requires t)
     (seek-word-sub-seek-word t)
-    (seek-word-mul-seek-word t)
-    (seek-word-add-seek-word t)
     (seek-word-seek-word-requires t)
     (seek-word-returns-3 t)
     (seek-word-sub-seek-word-2 t)
-    (seek-word-mul-seek-word-2 t)
     (seek-word-seek-word-requires-2 t)
     (seek-word-returns-4 t)
     (seek-word-sub-seek-word-3 t)
-    (seek-word-mul-seek-word-3 t)
-    (seek-word-add-seek-word-2 t)
     (seek-word-seek-word-requires-3 t)
     (seek-word-returns-5 t)

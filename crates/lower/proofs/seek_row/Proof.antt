@@ -1,3 +1,4 @@
+-- The proof of seek_row. Assumes nothing.
 use native.Mathlib.Omega.{arith}
 use Rattle.lower_laws.specs.Word.{word-mul, word-found, word-none}
 use borrow.Author.Needs.{needs}

@@ -1,6 +1,6 @@
 -- `words::first_slot` meets its contract. The loop's invariant: `first` is the sum of the locals of the classes passed. Assumes nothing.
 use mathlib.Core.Path.{_≡_}
-use Prim.Native.Nat.{_+_, _-_, _*_, _≤_}
+use Prim.Native.Nat.{_-_, _*_, _≤_}
 use native.Mathlib.Omega.{arith}
 use borrow.Author.Needs.{needs}
 use Rattle.rules.specs.Base.{sum}
