@@ -1,0 +1,2 @@
+-- the insertion in place
+pub mod Ins

@@ -1,0 +1,32 @@
+use native.Mathlib.Omega.{arith}
+use borrow.Author.Tests.{eq-eqb, ne-eqb}
+use borrow.Author.Needs.{needs}
+use Rattle.best.proofs.key.Statement.{statement}
+use Rattle.best.proofs.key.Tie as tie
+use Rattle.best.proofs.key.Reads as reads
+use Rattle.best.proofs.key.Lts as lts
+
+-- src/lib.rt:119:23
+mul-result : tie.Need-mul-result
+mul-result c = search needs
+
+-- src/lib.rt:119:23
+add-result : tie.Need-add-result
+add-result c = search needs
+
+-- src/lib.rt:119:42
+mul-result-2 : tie.Need-mul-result-2
+mul-result-2 c = search needs
+
+-- src/lib.rt:115:1
+returns : tie.Need-returns
+returns c =
+    (rw (eq-eqb _ _ (c .if1 .taken)), search needs)
+
+-- src/lib.rt:115:1
+returns-2 : tie.Need-returns-2
+returns-2 c =
+    (rw (ne-eqb _ _ (c .if1 .left)) (omega arith), search needs)
+
+pub key-spec : {M : Type 1} → statement M
+key-spec = tie.close (tie.spec mul-result add-result mul-result-2 returns returns-2)

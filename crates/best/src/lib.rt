@@ -1,0 +1,156 @@
+// What a walk has by value: the tree at a step, its rating, the list of the best.
+use rules::Header;
+use rules::Kind;
+use rules::Request;
+use rules::Tree;
+use ways::Got;
+use ways::Walk;
+ghost use mathlib.Core.Path.{_≡_};
+ghost use Prim.Native.Nat.{_+_, _*_, _%_, _^_, _<_, _≤_};
+ghost use lib.Dec.{eqb};
+ghost use Rattle.rules.specs.Base.{bitOf};
+ghost use Rattle.rules.specs.Words.{config};
+ghost use Rattle.rules.specs.Policy.{policyOf};
+ghost use Rattle.ways.specs.Walk.{place, ratedIn, rate, admit};
+ghost use Rattle.best.specs.Ends.{ends};
+ghost use Rattle.best.specs.List.{ratingOf, listOf};
+
+// x modulo n, with no division where x is below 2n.
+fn within(x: usize, n: usize) -> usize
+    requires { ⌜ 0 < n ⌝ }
+    ensures { λ r. ⌜ (r ≡ x % n) × (r < n) ⌝ }
+{
+    if x < n {
+        return x;
+    }
+    if x - n < n {
+        return x - n;
+    }
+    x % n
+}
+
+// The tree that step i of a walk visits: start + offset, modulo n; even i gives +i/2, odd i gives −(i+1)/2.
+pub fn place(n: usize, start: usize, i: usize) -> usize
+    requires { ⌜ (0 < n) × ((n ≤ 1024) × ((start < 2 ^ 44) × (i ≤ 1024))) ⌝ }
+    ensures { λ r. ⌜ (r ≡ place n start i) × (r < n) ⌝ }
+{
+    if i % 2 == 0 {
+        return within(start + i / 2, n);
+    }
+    let back = (i + 1) / 2;
+    if start + n < back {
+        return 0;
+    }
+    within(start + n - back, n)
+}
+
+// The rating of a policy's answer in a walk: Invalid 0, Steal 1, Demote 2, Match r is 3 + r.
+pub fn rated_in(walk: Walk, full: bool, kind: Kind) -> usize
+    requires { ⌜ ratingOf kind ≤ 255 ⌝ }
+    ensures { λ r. ⌜ (r ≡ ratedIn walk full kind) × (r ≤ 258) ⌝ }
+{
+    match walk {
+        Walk::Near => match kind {
+            Kind::Invalid => 0,
+            Kind::Steal => 0,
+            Kind::Demote => {
+                if full {
+                    return 2;
+                }
+                0
+            }
+            Kind::Match(r) => 3 + r,
+        },
+        Walk::Far => match kind {
+            Kind::Invalid => 0,
+            Kind::Steal => 1,
+            Kind::Demote => {
+                if full {
+                    return 258;
+                }
+                2
+            }
+            Kind::Match(_) => 258,
+        },
+        Walk::Stealing => match kind {
+            Kind::Invalid => 0,
+            Kind::Steal => 1,
+            Kind::Demote => 2,
+            Kind::Match(r) => 3 + r,
+        },
+    }
+}
+
+// The rating of a pair's word in a walk, for a tree with so many free.
+fn rated_of(w: u32, walk: Walk, free: usize) -> usize
+    ensures { λ r. ⌜ (r ≡ ratedIn walk (eqb free 2048) (policyOf w free)) × (r ≤ 258) ⌝ }
+{
+    let kind = words::policy_of(w, free);
+    rated_in(walk, free == 2048, kind)
+}
+
+// The frames of an order.
+pub fn size(order: usize) -> usize
+    requires { ⌜ order ≤ 11 ⌝ }
+    ensures { λ r. ⌜ r ≡ 2 ^ order ⌝ }
+{
+    1usize << order
+}
+
+// The rating of a tree in a walk: 0 where it is reserved or has too little free.
+pub fn rate(h: Header, table: &[u32; 64], q: Request, walk: Walk, e: Tree) -> usize
+    requires { ⌜ (q .order ≤ 11) × ((q .class < 8) × (e .class < 8)) ⌝ }
+    ensures { λ r. ⌜ (r ≡ rate (config h (now (table .entry))) q walk e) × (r ≤ 258) ⌝ }
+{
+    if e.reserved {
+        return 0;
+    }
+    if e.free < size(q.order) {
+        return 0;
+    }
+    rated_of(table[q.class * 8 + e.class], walk, e.free)
+}
+
+// What the list is ordered by: the rating, then fully free above not.
+pub fn key(r: usize, free: usize) -> usize
+    requires { ⌜ r ≤ 258 ⌝ }
+    ensures { λ k. ⌜ (k ≡ 2 * r + bitOf (eqb free 2048)) × ((r ≤ k) × (k < 1024)) ⌝ }
+{
+    if free == 2048 { 2 * r + 1 } else { 2 * r }
+}
+
+// Whether a route that came back so is the last: a frame, or stuck.
+pub fn ends(g: Got) -> bool
+    ensures { λ r. ⌜ r ≡ ends g ⌝ }
+{
+    match g {
+        Got::Done { frame: _, class: _ } => true,
+        Got::Missed => false,
+        Got::MissedAt(_) => false,
+        Got::Stuck => true,
+    }
+}
+
+// A list of the best m, a rated tree offered: it goes before the first that is strictly worse, the last of a full list falls out.
+pub fn admit(best: [u64; 8], m: usize, key: usize, t: usize) -> [u64; 8]
+    requires { ⌜ (m ≤ 8) × ((0 < key) × ((key < 2 ^ 32) × (t < 2 ^ 32))) ⌝ }
+    ensures { λ r. ⌜ listOf m r ≡ admit m key t (listOf m best) ⌝ }
+{
+    let mut s = best;
+    let mut cur = key as u64 * 0x1_0000_0000 + t as u64;
+    let mut inside = false;
+    let mut k: usize = 0;
+    while k < m {
+        let y = s[k];
+        if inside {
+            s[k] = cur;
+            cur = y;
+        } else if y / 0x1_0000_0000 < cur / 0x1_0000_0000 {
+            s[k] = cur;
+            cur = y;
+            inside = true;
+        }
+        k += 1;
+    }
+    s
+}

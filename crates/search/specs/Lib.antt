@@ -1,0 +1,2 @@
+-- the number of trees
+pub mod Count

@@ -1,0 +1,2 @@
+-- what a step and a walk answer, as the definitions have it
+pub mod Seen
