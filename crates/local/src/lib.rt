@@ -15,7 +15,7 @@ ghost use Rattle.rules.specs.Locals.{inTree, localTake, localPut, localRow, loc
 ghost use Rattle.local.specs.Loops.{payerOf, payerAt};
 
 // The word of a local.
-fn word(locals: &[u64], j: usize) -> u64
+pub fn word(locals: &[u64], j: usize) -> u64
     ensures { λ r. ⌜ r ≡ getD (now (locals .entry)) j 0 ⌝ }
 {
     if j < locals.len() { locals[j] } else { 0 }

@@ -1,0 +1,40 @@
+-- What the tests of header, table and lengths give to those after them: every tree of the configuration has an entry and bitmap words. Assumes nothing.
+use mathlib.Core.Path.{_≡_}
+use mathlib.Core.Bool.{true}
+use mathlib.Core.List.{List}
+use Prim.Native.Nat.{ℕ, _+_, _*_, _≤_, _<_}
+use native.Mathlib.Omega.{arith}
+use lib.Dec.{eqb}
+use lib.ListN.{length}
+use borrow.Author.Tests.{eqb-true}
+use Rattle.rules.specs.Base.{both}
+use Rattle.rules.specs.Words.{Config, treeFrames, treeRows, trees, localCount}
+use Rattle.rules.specs.Policy.{accepted}
+use Rattle.ways.specs.Standing.{lengthsExact}
+use Rattle.policy_laws.specs.All.{both-left, both-right}
+use Rattle.policy_laws.specs.Accepted.{accepted-says}
+
+-- lent lengths are exact
+pub record Exact (c : Config) (ts ls bs : List ℕ) : Type 0 where
+  pub frames : c .frames ≤ 1024 * treeFrames (c .order)
+  pub entries : length ts ≡ trees c
+  pub locals : length ls ≡ localCount (c .places)
+  pub words : length bs ≡ treeRows (c .order) * trees c
+
+module _ (c : Config) where
+  -- an accepted header has at most 1,024 trees' frames
+  pub frames-most : accepted c ≡ true → c .frames ≤ 1024 * treeFrames (c .order)
+  frames-most h = accepted-says c h .most
+
+  -- the test of the lengths says them
+  pub exact-says : (ts ls bs : List ℕ) → accepted c ≡ true → lengthsExact c ts ls bs ≡ true → Exact c ts ls bs
+  unfolding lengthsExact
+  exact-says ts ls bs a h =
+      let g : both (eqb (length ls) (localCount (c .places))) (eqb (length bs) (treeRows (c .order) * trees c)) ≡ true
+      = both-right (eqb (length ts) (trees c)) _ h in
+      record {
+        frames = frames-most a;
+        entries = eqb-true _ _ (both-left (eqb (length ts) (trees c)) _ h);
+        locals = eqb-true _ _ (both-left (eqb (length ls) (localCount (c .places))) _ g);
+        words = eqb-true _ _ (both-right (eqb (length ls) (localCount (c .places))) _ g);
+      }
