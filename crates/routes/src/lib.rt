@@ -78,7 +78,7 @@ fn get_at(
     looks: usize,
     tries: usize,
 ) -> Routed
-    requires { ⌜ Fits h q × ((looks < 2 ^ 29) × (tries < 2 ^ 29)) ⌝ }
+    requires { ⌜ Fits h q × ((looks < 2 ^ 27) × (tries < 2 ^ 27)) ⌝ }
     ensures { λ r. ⌜ (ended r (now (trees .exit)) (now (locals .exit)) (now (bits .exit))
         ≡ getAt (config h (now (table .entry))) q f (st (now (trees .entry)) (now (locals .entry)) (now (bits .entry)) looks tries))
         × ((r .looks ≤ looks) × (r .tries ≤ tries + 4)) ⌝ }
@@ -135,7 +135,7 @@ fn get_reserving(
     looks: usize,
     tries: usize,
 ) -> Routed
-    requires { ⌜ Fits h q × ((start < 2 ^ 44) × ((looks < 2 ^ 29) × (tries < 2 ^ 29))) ⌝ }
+    requires { ⌜ Fits h q × ((start < 2 ^ 44) × ((looks < 2 ^ 27) × (tries < 2 ^ 27))) ⌝ }
     ensures { λ r. ⌜ (ended r (now (trees .exit)) (now (locals .exit)) (now (bits .exit))
         ≡ getReserving (config h (now (table .entry))) q j start (st (now (trees .entry)) (now (locals .entry)) (now (bits .entry)) looks tries))
         × ((r .looks ≤ looks + 4096) × (r .tries ≤ tries + 8193)) ⌝ }
@@ -178,7 +178,7 @@ fn search_trees(
     looks: usize,
     tries: usize,
 ) -> Routed
-    requires { ⌜ Fits h q × ((indexOf local < 2 ^ 32) × ((looks < 2 ^ 29) × (tries < 2 ^ 29))) ⌝ }
+    requires { ⌜ Fits h q × ((indexOf local < 2 ^ 32) × ((looks < 2 ^ 27) × (tries < 2 ^ 27))) ⌝ }
     ensures { λ r. ⌜ (ended r (now (trees .exit)) (now (locals .exit)) (now (bits .exit))
         ≡ searchTrees (config h (now (table .entry))) q local (st (now (trees .entry)) (now (locals .entry)) (now (bits .entry)) looks tries))
         × ((r .looks ≤ looks + 4096) × (r .tries ≤ tries + 8193)) ⌝ }
@@ -209,7 +209,7 @@ fn get_any(
     looks: usize,
     tries: usize,
 ) -> Routed
-    requires { ⌜ Fits h q × ((looks < 2 ^ 29) × (tries < 2 ^ 29)) ⌝ }
+    requires { ⌜ Fits h q × ((looks < 2 ^ 27) × (tries < 2 ^ 27)) ⌝ }
     ensures { λ r. ⌜ (ended r (now (trees .exit)) (now (locals .exit)) (now (bits .exit))
         ≡ getAny (config h (now (table .entry))) q (st (now (trees .entry)) (now (locals .entry)) (now (bits .entry)) looks tries))
         × ((r .looks ≤ looks + 4096) × (r .tries ≤ tries + 8195)) ⌝ }
