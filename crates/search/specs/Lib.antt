@@ -1,2 +1,3 @@
--- the number of trees
+-- the number of trees, the start rounded down
 pub mod Count
+pub mod Rounded

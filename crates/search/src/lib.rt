@@ -57,8 +57,8 @@ pub fn search_far(
 ) -> Routed
     requires { ⌜ Fits h q × ((start < 2 ^ 44) × ((looks < 2 ^ 29) × (tries < 2 ^ 29))) ⌝ }
     ensures { λ r. ⌜ (ended r (now (trees .exit)) (now (locals .exit)) (now (bits .exit))
-      ≡ searchFar (config h (now (table .entry))) q j start (st (now (trees .entry)) (now (locals .entry)) (now (bits .entry)) looks tries))
-      × ((r .looks ≤ looks + 1024) × (r .tries ≤ tries + 1032)) ⌝ }
+        ≡ searchFar (config h (now (table .entry))) q j start (st (now (trees .entry)) (now (locals .entry)) (now (bits .entry)) looks tries))
+        × ((r .looks ≤ looks + 1024) × (r .tries ≤ tries + 1032)) ⌝ }
 {
     let n = count(h.frames);
     walk::search_best(
@@ -95,8 +95,8 @@ pub fn search_from(
 ) -> Routed
     requires { ⌜ Fits h q × ((start < 2 ^ 44) × ((looks < 2 ^ 28) × (tries < 2 ^ 28))) ⌝ }
     ensures { λ r. ⌜ (ended r (now (trees .exit)) (now (locals .exit)) (now (bits .exit))
-      ≡ searchFrom (config h (now (table .entry))) q j start (st (now (trees .entry)) (now (locals .entry)) (now (bits .entry)) looks tries))
-      × ((r .looks ≤ looks + 2048) × (r .tries ≤ tries + 2048)) ⌝ }
+        ≡ searchFrom (config h (now (table .entry))) q j start (st (now (trees .entry)) (now (locals .entry)) (now (bits .entry)) looks tries))
+        × ((r .looks ≤ looks + 2048) × (r .tries ≤ tries + 2048)) ⌝ }
 {
     if q.order < 9 {
         let n = count(h.frames);
@@ -142,8 +142,8 @@ pub fn search_and_reserve(
 ) -> Routed
     requires { ⌜ Fits h q × ((start < 2 ^ 44) × ((looks < 2 ^ 28) × (tries < 2 ^ 28))) ⌝ }
     ensures { λ r. ⌜ (ended r (now (trees .exit)) (now (locals .exit)) (now (bits .exit))
-      ≡ searchAndReserve (config h (now (table .entry))) q j start (st (now (trees .entry)) (now (locals .entry)) (now (bits .entry)) looks tries))
-      × ((r .looks ≤ looks + 2048) × (r .tries ≤ tries + 2048)) ⌝ }
+        ≡ searchAndReserve (config h (now (table .entry))) q j start (st (now (trees .entry)) (now (locals .entry)) (now (bits .entry)) looks tries))
+        × ((r .looks ≤ looks + 2048) × (r .tries ≤ tries + 2048)) ⌝ }
 {
     let n = count(h.frames);
     let from = rounded_start(n, start);
@@ -164,8 +164,8 @@ pub fn search_and_steal(
 ) -> Routed
     requires { ⌜ Fits h q × ((start < 2 ^ 44) × ((looks < 2 ^ 28) × (tries < 2 ^ 28))) ⌝ }
     ensures { λ r. ⌜ (ended r (now (trees .exit)) (now (locals .exit)) (now (bits .exit))
-      ≡ searchAndSteal (config h (now (table .entry))) q start (st (now (trees .entry)) (now (locals .entry)) (now (bits .entry)) looks tries))
-      × ((r .looks ≤ looks + 2048) × (r .tries ≤ tries + 2048)) ⌝ }
+        ≡ searchAndSteal (config h (now (table .entry))) q start (st (now (trees .entry)) (now (locals .entry)) (now (bits .entry)) looks tries))
+        × ((r .looks ≤ looks + 2048) × (r .tries ≤ tries + 2048)) ⌝ }
 {
     let n = count(h.frames);
     walk::search_best(

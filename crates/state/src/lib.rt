@@ -4,14 +4,20 @@ use rules::Local;
 ghost use mathlib.Core.Path.{_≡_};
 ghost use Prim.Native.Nat.{_+_, _*_, _^_, _<_, _≤_};
 ghost use lib.ListN.{length};
-ghost use Rattle.rules.specs.Base.{bitOf, allBelow};
-ghost use Rattle.rules.specs.Words.{config, localOf};
+ghost use Rattle.rules.specs.Base.{bitOf, allBelow, sum};
+ghost use Rattle.rules.specs.Words.{config, localsOf, localOf};
 ghost use Rattle.ways.specs.Standing.{lengthsExact, entryStands, holderStands, localStands, classStands, apartBefore, reservedCount, presentCount, standing};
 ghost use Rattle.state.specs.Exact.{Exact};
 ghost use Rattle.state.specs.Apart.{holdsTree};
 
 // Lent lengths are exact: n tree words, one local word per local, 32n bitmap words.
-pub fn lengths_exact(h: Header, table: &[u32; 64], trees: &[u32], locals: &[u64], bits: &[u64]) -> bool
+pub fn lengths_exact(
+    h: Header,
+    table: &[u32; 64],
+    trees: &[u32],
+    locals: &[u64],
+    bits: &[u64],
+) -> bool
     requires { ⌜ h .frames ≤ 2 ^ 21 ⌝ }
     ensures { λ r. ⌜ r ≡ lengthsExact (config h (now (table .entry))) (now (trees .entry)) (now (locals .entry)) (now (bits .entry)) ⌝ }
 {
@@ -44,8 +50,8 @@ fn entry_stands(h: Header, table: &[u32; 64], trees: &[u32], bits: &[u64], t: us
 }
 
 // Each entry stands.
-fn entries_stand(h: Header, table: &[u32; 64], trees: &[u32], locals: &[u64], bits: &[u64]) -> bool
-    requires { ⌜ Exact (config h (now table)) (now trees) (now locals) (now bits) ⌝ }
+fn entries_stand(h: Header, table: &[u32; 64], trees: &[u32], bits: &[u64]) -> bool
+    requires { ⌜ Exact (config h (now table)) (now trees) (now bits) ⌝ }
     ensures { λ r. ⌜ r ≡ allBelow (length (now (trees .entry))) (entryStands (config h (now (table .entry))) (now (trees .entry)) (now (bits .entry))) ⌝ }
 {
     let mut t: usize = 0;
@@ -59,8 +65,15 @@ fn entries_stand(h: Header, table: &[u32; 64], trees: &[u32], locals: &[u64], bi
 }
 
 // Of a present local: its tree exists, the entry is reserved, the pair good, and entry free plus its free the number of clear bits.
-fn holder_stands(h: Header, table: &[u32; 64], trees: &[u32], locals: &[u64], bits: &[u64], class: usize, l: Local) -> bool
-    requires { ⌜ Exact (config h (now table)) (now trees) (now locals) (now bits) × ((class < 8) × (l .free < 2 ^ 19)) ⌝ }
+fn holder_stands(
+    h: Header,
+    table: &[u32; 64],
+    trees: &[u32],
+    bits: &[u64],
+    class: usize,
+    l: Local,
+) -> bool
+    requires { ⌜ Exact (config h (now table)) (now trees) (now bits) × ((class < 8) × (l .free < 2 ^ 19)) ⌝ }
     ensures { λ r. ⌜ r ≡ holderStands (config h (now (table .entry))) (now (trees .entry)) (now (bits .entry)) class l ⌝ }
 {
     let t = l.row / 32;
@@ -78,44 +91,61 @@ fn holder_stands(h: Header, table: &[u32; 64], trees: &[u32], locals: &[u64], bi
 }
 
 // A present local stands as a holder, an absent one is the word 0.
-fn local_stands(h: Header, table: &[u32; 64], trees: &[u32], locals: &[u64], bits: &[u64], class: usize, j: usize) -> bool
-    requires { ⌜ Exact (config h (now table)) (now trees) (now locals) (now bits) × (class < 8) ⌝ }
+fn local_stands(
+    h: Header,
+    table: &[u32; 64],
+    trees: &[u32],
+    locals: &[u64],
+    bits: &[u64],
+    class: usize,
+    j: usize,
+) -> bool
+    requires { ⌜ Exact (config h (now table)) (now trees) (now bits) × (class < 8) ⌝ }
     ensures { λ r. ⌜ r ≡ localStands (config h (now (table .entry))) (now (trees .entry)) (now (locals .entry)) (now (bits .entry)) class j ⌝ }
 {
     let l = local::load(locals, j);
     if l.present {
-        return holder_stands(h, table, trees, locals, bits, class, l);
+        return holder_stands(h, table, trees, bits, class, l);
     }
     local::word(locals, j) == 0
 }
 
-// The locals of a class.
-fn class_stands(h: Header, table: &[u32; 64], trees: &[u32], locals: &[u64], bits: &[u64], class: usize) -> bool
-    requires { ⌜ Exact (config h (now table)) (now trees) (now locals) (now bits) × (class < 8) ⌝ }
+// The locals of a class, from its first place on.
+fn class_stands(
+    h: Header,
+    table: &[u32; 64],
+    trees: &[u32],
+    locals: &[u64],
+    bits: &[u64],
+    class: usize,
+    first: usize,
+) -> bool
+    requires { ⌜ Exact (config h (now table)) (now trees) (now bits) × ((class < 8) × ((first < 2 ^ 32) × (first ≡ sum (localsOf (h .places)) 0 class))) ⌝ }
     ensures { λ r. ⌜ r ≡ classStands (config h (now (table .entry))) (now (trees .entry)) (now (locals .entry)) (now (bits .entry)) class ⌝ }
 {
     let len = words::locals_of(h, class);
-    let first = words::first_slot(h, class);
-    let mut i: usize = 0;
-    while i < len {
-        if !local_stands(h, table, trees, locals, bits, class, first + i) {
+    let mut index: usize = 0;
+    while index < len {
+        if !local_stands(h, table, trees, locals, bits, class, first + index) {
             return false;
         }
-        i += 1;
+        index += 1;
     }
     true
 }
 
 // The locals of all classes.
 fn locals_stand(h: Header, table: &[u32; 64], trees: &[u32], locals: &[u64], bits: &[u64]) -> bool
-    requires { ⌜ Exact (config h (now table)) (now trees) (now locals) (now bits) ⌝ }
+    requires { ⌜ Exact (config h (now table)) (now trees) (now bits) ⌝ }
     ensures { λ r. ⌜ r ≡ allBelow 8 (classStands (config h (now (table .entry))) (now (trees .entry)) (now (locals .entry)) (now (bits .entry))) ⌝ }
 {
+    let mut first: usize = 0;
     let mut class: usize = 0;
     while class < 8 {
-        if !class_stands(h, table, trees, locals, bits, class) {
+        if !class_stands(h, table, trees, locals, bits, class, first) {
             return false;
         }
+        first += words::locals_of(h, class);
         class += 1;
     }
     true
@@ -177,28 +207,28 @@ fn bit_of(b: bool) -> usize
 fn reserved_count(trees: &[u32]) -> usize
     ensures { λ r. ⌜ r ≡ reservedCount (now (trees .entry)) (length (now (trees .entry))) ⌝ }
 {
-    let mut count: usize = 0;
+    let mut reserved: usize = 0;
     let mut t: usize = 0;
     while t < trees.len() {
         let e = trees::load(trees, t);
-        count += bit_of(e.reserved);
+        reserved += bit_of(e.reserved);
         t += 1;
     }
-    count
+    reserved
 }
 
 // The number of present locals.
 fn present_count(locals: &[u64]) -> usize
     ensures { λ r. ⌜ r ≡ presentCount (now (locals .entry)) (length (now (locals .entry))) ⌝ }
 {
-    let mut count: usize = 0;
+    let mut present: usize = 0;
     let mut j: usize = 0;
     while j < locals.len() {
         let l = local::load(locals, j);
-        count += bit_of(l.present);
+        present += bit_of(l.present);
         j += 1;
     }
-    count
+    present
 }
 
 // The whole state is tested.
@@ -207,7 +237,7 @@ pub fn stands(h: Header, table: &[u32; 64], trees: &[u32], locals: &[u64], bits:
 {
     if accept::accepts(h, table) {
         if lengths_exact(h, table, trees, locals, bits) {
-            if entries_stand(h, table, trees, locals, bits) {
+            if entries_stand(h, table, trees, bits) {
                 if locals_stand(h, table, trees, locals, bits) {
                     if apart(locals) {
                         if reserved_count(trees) == present_count(locals) {

@@ -33,25 +33,13 @@ pub fn visit(
 ) -> Seen
     requires { ⌜ Fits h q × ((m ≤ 8) × ((t < 2 ^ 32) × ((looks < 2 ^ 31) × (tries < 2 ^ 31)))) ⌝ }
     ensures { λ r. ⌜ (sighted m r (now (trees .exit)) (now (locals .exit)) (now (bits .exit))
-      ≡ visit (config h (now (table .entry))) q w j m t (listOf m best) (st (now (trees .entry)) (now (locals .entry)) (now (bits .entry)) looks tries))
-      × ((r .looks ≤ looks + 1) × (r .tries ≤ tries + 1)) ⌝ }
+        ≡ visit (config h (now (table .entry))) q w j m t (listOf m best) (st (now (trees .entry)) (now (locals .entry)) (now (bits .entry)) looks tries))
+        × ((r .looks ≤ looks + 1) × (r .tries ≤ tries + 1)) ⌝ }
 {
     let e = trees::load(trees, t);
     let r = best::rate(h, table, q, w, e);
     if r == 258 {
-        let a = steal::access(
-            h,
-            table,
-            trees,
-            locals,
-            bits,
-            q,
-            w,
-            j,
-            t,
-            looks + 1,
-            tries,
-        );
+        let a = steal::access(h, table, trees, locals, bits, q, w, j, t, looks + 1, tries);
         let g = a.got;
         return Seen {
             got: g,
@@ -97,8 +85,8 @@ pub fn walk_trees(
 ) -> Seen
     requires { ⌜ Fits h q × ((m ≤ 8) × (((0 < n) × (n ≤ 1024)) × ((start < 2 ^ 44) × ((last ≤ 1024) × ((looks < 2 ^ 30) × (tries < 2 ^ 30)))))) ⌝ }
     ensures { λ r. ⌜ (sighted m r (now (trees .exit)) (now (locals .exit)) (now (bits .exit))
-      ≡ walk (config h (now (table .entry))) q w j m n start first last [] (st (now (trees .entry)) (now (locals .entry)) (now (bits .entry)) looks tries))
-      × ((r .looks ≤ looks + last) × (r .tries ≤ tries + last)) ⌝ }
+        ≡ walk (config h (now (table .entry))) q w j m n start first last [] (st (now (trees .entry)) (now (locals .entry)) (now (bits .entry)) looks tries))
+        × ((r .looks ≤ looks + last) × (r .tries ≤ tries + last)) ⌝ }
 {
     let mut list = [0u64; 8];
     let mut seen = looks;
@@ -107,7 +95,19 @@ pub fn walk_trees(
     while i < last {
         let t = best::place(n, start, i);
         let s = visit(
-            h, table, trees, locals, bits, q, w, j, m, t, list, seen, asked,
+            h,
+            table,
+            trees,
+            locals,
+            bits,
+            q,
+            w,
+            j,
+            m,
+            t,
+            list,
+            seen,
+            asked,
         );
         let g = s.got;
         if best::ends(g) {
@@ -144,8 +144,8 @@ pub fn try_list(
 ) -> Routed
     requires { ⌜ Fits h q × ((m ≤ 8) × ((looks < 2 ^ 31) × (tries < 2 ^ 31))) ⌝ }
     ensures { λ r. ⌜ (ended r (now (trees .exit)) (now (locals .exit)) (now (bits .exit))
-      ≡ tryList (config h (now (table .entry))) q w j (listOf m best) (st (now (trees .entry)) (now (locals .entry)) (now (bits .entry)) looks tries))
-      × ((r .looks ≤ looks) × (r .tries ≤ tries + m)) ⌝ }
+        ≡ tryList (config h (now (table .entry))) q w j (listOf m best) (st (now (trees .entry)) (now (locals .entry)) (now (bits .entry)) looks tries))
+        × ((r .looks ≤ looks) × (r .tries ≤ tries + m)) ⌝ }
 {
     let mut seen = looks;
     let mut asked = tries;
@@ -196,11 +196,25 @@ pub fn search_best(
 ) -> Routed
     requires { ⌜ Fits h q × ((m ≤ 8) × (((0 < n) × (n ≤ 1024)) × ((start < 2 ^ 44) × ((last ≤ 1024) × ((looks < 2 ^ 30) × (tries < 2 ^ 30)))))) ⌝ }
     ensures { λ r. ⌜ (ended r (now (trees .exit)) (now (locals .exit)) (now (bits .exit))
-      ≡ searchBest (config h (now (table .entry))) q w j m n start first last (st (now (trees .entry)) (now (locals .entry)) (now (bits .entry)) looks tries))
-      × ((r .looks ≤ looks + last) × (r .tries ≤ tries + (last + m))) ⌝ }
+        ≡ searchBest (config h (now (table .entry))) q w j m n start first last (st (now (trees .entry)) (now (locals .entry)) (now (bits .entry)) looks tries))
+        × ((r .looks ≤ looks + last) × (r .tries ≤ tries + (last + m))) ⌝ }
 {
     let s = walk_trees(
-        h, table, trees, locals, bits, q, w, j, m, n, start, first, last, looks, tries,
+        h,
+        table,
+        trees,
+        locals,
+        bits,
+        q,
+        w,
+        j,
+        m,
+        n,
+        start,
+        first,
+        last,
+        looks,
+        tries,
     );
     let g = s.got;
     if best::ends(g) {
@@ -211,5 +225,18 @@ pub fn search_best(
         };
     }
     let list = s.best;
-    try_list(h, table, trees, locals, bits, q, w, j, m, list, s.looks, s.tries)
+    try_list(
+        h,
+        table,
+        trees,
+        locals,
+        bits,
+        q,
+        w,
+        j,
+        m,
+        list,
+        s.looks,
+        s.tries,
+    )
 }

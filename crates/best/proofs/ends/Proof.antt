@@ -1,3 +1,4 @@
+-- `best::ends` meets its contract: one answer for each end. Assumes nothing.
 use Rattle.best.specs.Ends.{ends}
 use borrow.Author.Needs.{needs}
 use Rattle.best.proofs.ends.Statement.{statement}
@@ -5,41 +6,33 @@ use Rattle.best.proofs.ends.Tie as tie
 use Rattle.best.proofs.ends.Reads as reads
 use Rattle.best.proofs.ends.Lts as lts
 
--- src/lib.rt:127:45
 enum-told : tie.Need-enum-told
 enum-told c = search needs
 
--- src/lib.rt:128:24
 enum-told-2 : tie.Need-enum-told-2
 enum-told-2 c = search needs
 
--- src/lib.rt:129:29
 enum-told-3 : tie.Need-enum-told-3
 enum-told-3 c = search needs
 
--- src/lib.rt:130:23
 enum-told-4 : tie.Need-enum-told-4
 enum-told-4 c = search needs
 
--- src/lib.rt:123:1
 returns : tie.Need-returns
 unfolding ends
 returns c =
     rw (c .enum-told .given .1)
 
--- src/lib.rt:123:1
 returns-2 : tie.Need-returns-2
 unfolding ends
 returns-2 c =
     rw (c .enum-told2 .given .1)
 
--- src/lib.rt:123:1
 returns-3 : tie.Need-returns-3
 unfolding ends
 returns-3 c =
     rw (c .enum-told3 .given .1)
 
--- src/lib.rt:123:1
 returns-4 : tie.Need-returns-4
 unfolding ends
 returns-4 c =

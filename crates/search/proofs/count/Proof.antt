@@ -1,3 +1,5 @@
+-- `search::count` meets its contract: frames of an accepted header. Assumes nothing.
+use Rattle.search.specs.Count.{count-some, count-most}
 use borrow.Author.Needs.{needs}
 use Rattle.search.proofs.count.Statement.{statement}
 use Rattle.search.proofs.count.Tie as tie
@@ -5,13 +7,12 @@ use Rattle.search.proofs.count.Reads as reads
 use Rattle.search.proofs.count.Lts as lts
 use Rattle.words.proofs.tree_count.Reads as tree-count-reads
 
--- src/lib.rt:18:5
 tree-count-requires : tie.Need-tree-count-requires
 tree-count-requires c κs = search needs
 
--- src/lib.rt:14:1
 returns : tie.Need-returns
-returns c = ?
+returns c =
+    (c .tree-count .ensures, (rw (c .tree-count .ensures) (count-some _ (c .before .pre .0)), rw (c .tree-count .ensures) (count-most _ (c .before .pre .1))))
 
 pub count-spec : {M : Type 1} → statement M
 count-spec = tie.close (tie.spec tree-count-requires returns)

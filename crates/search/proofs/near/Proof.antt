@@ -1,15 +1,21 @@
+-- `search::near` meets its contract. Assumes nothing.
+use Rattle.ways.specs.Search.{near}
+use borrow.Author.Needs.{needs}
+use borrow.Author.Tests.{le-ltb, lt-ltb}
 use Rattle.search.proofs.near.Statement.{statement}
 use Rattle.search.proofs.near.Tie as tie
 use Rattle.search.proofs.near.Reads as reads
 use Rattle.search.proofs.near.Lts as lts
 
--- src/lib.rt:22:1
 returns : tie.Need-returns
-returns c = ?
+unfolding near
+returns c =
+    (rw (lt-ltb _ _ (c .if1 .taken)), search needs)
 
--- src/lib.rt:22:1
 returns-2 : tie.Need-returns-2
-returns-2 c = ?
+unfolding near
+returns-2 c =
+    (rw (le-ltb _ _ (c .if1 .left)), search needs)
 
 pub near-spec : {M : Type 1} → statement M
 near-spec = tie.close (tie.spec returns returns-2)

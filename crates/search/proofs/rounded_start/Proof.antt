@@ -1,3 +1,11 @@
+-- `search::rounded_start` meets its contract: the powers passed are below 2 × near. Assumes nothing.
+use borrow.Author.Needs.{needs}
+use native.Mathlib.Omega.{arith}
+use native.Mathlib.Nat.{div-mul-le-self}
+use mathlib.Core.Path.{_≡_}
+use Prim.Native.Nat.{_*_, _^_, _-_, _<_, _≤_}
+use Rattle.ways.specs.Search.{near}
+use Rattle.search.specs.Rounded.{Passed, passed-none, passed-more, shifted, round-at, round-none}
 use Rattle.search.proofs.rounded_start.Statement.{statement}
 use Rattle.search.proofs.rounded_start.Tie as tie
 use Rattle.search.proofs.rounded_start.Reads as reads
@@ -6,54 +14,57 @@ use Rattle.best.proofs.size.Reads as size-reads
 use Rattle.search.proofs.near.Reads as near-reads
 
 abbrev Inv-loop : tie.InvT-loop
-Inv-loop n start least e₀ e = ?
+Inv-loop n start least e₀ e = (e ≤ 8) × ((least ≡ 2 * near n) × Passed n e)
 
 abbrev μ-loop : tie.MeasureT-loop
-μ-loop n start least e₀ e = ?
+μ-loop n start least e₀ e = 8 - e
 
--- src/lib.rt:34:21
 near-requires : tie.Need-near-requires Inv-loop μ-loop
-near-requires c κs = ?
+near-requires c κs = search needs
 
--- src/lib.rt:34:17
 mul-least : tie.Need-mul-least Inv-loop μ-loop
-mul-least c = ?
+mul-least c = search needs
 
--- src/lib.rt:36:5
 loop-holds : tie.Need-loop-holds Inv-loop μ-loop
-loop-holds c = ?
+loop-holds c = (search needs, (rw (c .near .ensures .0), passed-none _))
 
--- src/lib.rt:37:21
 size-requires : tie.Need-size-requires Inv-loop μ-loop
-size-requires c κs = ?
+size-requires c κs = search needs
 
--- src/lib.rt:38:21
 shr-result : tie.Need-shr-result Inv-loop μ-loop
-shr-result c = ?
+shr-result c = search needs
 
--- src/lib.rt:38:20
 shl-result : tie.Need-shl-result Inv-loop μ-loop
-shl-result c = ?
+shl-result c = search needs
 
--- src/lib.rt:38:13
 returns : tie.Need-returns Inv-loop μ-loop
-returns c = ?
+returns c =
+    let l = c .before .before .before .loop in
+    let a = c .before .before .before .before .before .args in
+    let p = c .before .before .before .before .before .pre in
+    let h : 2 * near (a .n) ≤ 2 ^ l .e = omega (arith, c .if1 .taken, c .before .size .ensures, l .inv .1 .0) in (
+      rw (shifted (a .start) (l .e) (p .1)) (round-at (a .n) (a .start) (l .e) (c .before .before .loop-test .taken) (l .inv .1 .1) h),
+      rw (shifted (a .start) (l .e) (p .1)) (div-mul-le-self (a .start) (2 ^ l .e)),
+    )
 
--- src/lib.rt:40:9
 add-e : tie.Need-add-e Inv-loop μ-loop
-add-e c = ?
+add-e c = search needs
 
--- src/lib.rt:36:5
 loop-less : tie.Need-loop-less Inv-loop μ-loop
-loop-less c = ?
+loop-less c = search needs
 
--- src/lib.rt:36:5
 loop-again : tie.Need-loop-again Inv-loop μ-loop
-loop-again c = ?
+loop-again c =
+    let l = c .before .before .before .loop in
+    let a = c .before .before .before .before .before .args in
+    let h : 2 ^ l .e < 2 * near (a .n) = omega (arith, c .if1 .left, c .before .size .ensures, l .inv .1 .0) in
+    (search needs, (l .inv .1 .0, passed-more (a .n) (l .e) (l .inv .1 .1) h))
 
--- src/lib.rt:30:1
 returns-2 : tie.Need-returns-2 Inv-loop μ-loop
-returns-2 c = ?
+returns-2 c =
+    let l = c .before .loop in
+    let e : l .e ≡ 8 = omega (arith, l .inv .0, c .loop-test .left) in
+    (round-none _ _ (rw e at (l .inv .1 .1)), search needs)
 
 pub rounded-start-spec : {M : Type 1} → statement M
 rounded-start-spec =

@@ -1,3 +1,5 @@
+-- `search::search_and_steal` meets its contract. Assumes nothing.
+use Rattle.ways.specs.Search.{searchAndSteal}
 use borrow.Author.Needs.{needs}
 use Rattle.search.proofs.search_and_steal.Statement.{statement}
 use Rattle.search.proofs.search_and_steal.Tie as tie
@@ -6,29 +8,30 @@ use Rattle.search.proofs.search_and_steal.Lts as lts
 use Rattle.search.proofs.count.Reads as count-reads
 use Rattle.walk.proofs.search_best.Reads as search-best-reads
 
--- src/lib.rt:170:9
 count-requires : tie.Need-count-requires
 count-requires c κs = search needs
 
--- src/lib.rt:171:5
 search-best-requires : tie.Need-search-best-requires
 search-best-requires c κs = search needs
 
--- src/lib.rt:154:1
 same-length : tie.Need-same-length
 same-length c = search needs
 
--- src/lib.rt:154:1
 same-length-2 : tie.Need-same-length-2
 same-length-2 c = search needs
 
--- src/lib.rt:154:1
 same-length-3 : tie.Need-same-length-3
 same-length-3 c = search needs
 
--- src/lib.rt:154:1
 returns : tie.Need-returns
-returns c = ?
+unfolding searchAndSteal
+returns c = (
+  rw (
+    ← c .before .before .before .before .before .before .before .before .before .before .count .ensures .0,
+    ← c .before .before .before .before .before .before .search-best .ensures .0,
+  ),
+  search needs,
+)
 
 pub search-and-steal-spec : {M : Type 1} → statement M
 search-and-steal-spec =

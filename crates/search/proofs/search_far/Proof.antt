@@ -1,3 +1,5 @@
+-- `search::search_far` meets its contract. Assumes nothing.
+use Rattle.ways.specs.Search.{searchFar}
 use borrow.Author.Needs.{needs}
 use Rattle.search.proofs.search_far.Statement.{statement}
 use Rattle.search.proofs.search_far.Tie as tie
@@ -6,29 +8,30 @@ use Rattle.search.proofs.search_far.Lts as lts
 use Rattle.search.proofs.count.Reads as count-reads
 use Rattle.walk.proofs.search_best.Reads as search-best-reads
 
--- src/lib.rt:63:9
 count-requires : tie.Need-count-requires
 count-requires c κs = search needs
 
--- src/lib.rt:64:5
 search-best-requires : tie.Need-search-best-requires
 search-best-requires c κs = search needs
 
--- src/lib.rt:46:1
 same-length : tie.Need-same-length
 same-length c = search needs
 
--- src/lib.rt:46:1
 same-length-2 : tie.Need-same-length-2
 same-length-2 c = search needs
 
--- src/lib.rt:46:1
 same-length-3 : tie.Need-same-length-3
 same-length-3 c = search needs
 
--- src/lib.rt:46:1
 returns : tie.Need-returns
-returns c = ?
+unfolding searchFar
+returns c = (
+  rw (
+    ← c .before .before .before .before .before .before .before .before .before .before .count .ensures .0,
+    ← c .before .before .before .before .before .before .search-best .ensures .0,
+  ),
+  search needs,
+)
 
 pub search-far-spec : {M : Type 1} → statement M
 search-far-spec =

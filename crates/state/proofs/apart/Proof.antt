@@ -10,9 +10,6 @@ use Rattle.ways.specs.Standing.{apartBefore}
 use Rattle.policy_laws.specs.All.{all-none, all-more, all-fails, all-done}
 use Rattle.state.proofs.apart.Statement.{statement}
 use Rattle.state.proofs.apart.Tie as tie
-use Rattle.state.proofs.apart.Reads as reads
-use Rattle.state.proofs.apart.Lts as lts
-use Rattle.state.proofs.apart_before.Reads as apart-before-reads
 
 abbrev Inv-loop : tie.InvT-loop
 Inv-loop locals j₀ j = (j ≤ length locals) × (allBelow j (apartBefore 11 locals) ≡ true)
@@ -20,31 +17,24 @@ Inv-loop locals j₀ j = (j ≤ length locals) × (allBelow j (apartBefore 11 lo
 abbrev μ-loop : tie.MeasureT-loop
 μ-loop locals j₀ j = length locals - j
 
--- src/lib.rt:160:5
 loop-holds : tie.Need-loop-holds Inv-loop μ-loop
 loop-holds c = (search needs, all-none _)
 
--- src/lib.rt:161:13
 apart-before-requires : tie.Need-apart-before-requires Inv-loop μ-loop
 apart-before-requires c κs = search needs
 
--- src/lib.rt:162:13
 returns : tie.Need-returns Inv-loop μ-loop
 returns c = sym (all-fails _ _ (c .before .before .before .loop .j) (c .before .before .loop-test .taken) (sym (c .before .apart-before .ensures) ∙ not-true _ (c .if1 .taken)))
 
--- src/lib.rt:164:9
 add-j : tie.Need-add-j Inv-loop μ-loop
 add-j c = search needs
 
--- src/lib.rt:160:5
 loop-less : tie.Need-loop-less Inv-loop μ-loop
 loop-less c = search needs
 
--- src/lib.rt:160:5
 loop-again : tie.Need-loop-again Inv-loop μ-loop
 loop-again c = (search needs, all-more _ _ (c .before .before .before .loop .inv .1) (sym (c .before .apart-before .ensures) ∙ not-false _ (c .if1 .left)))
 
--- src/lib.rt:156:1
 returns-2 : tie.Need-returns-2 Inv-loop μ-loop
 returns-2 c = sym (all-done _ (c .before .loop .j) _ (c .before .loop .inv .0) (c .loop-test .left) (c .before .loop .inv .1))
 

@@ -11,10 +11,6 @@ use Rattle.policy_laws.specs.All.{all-none, all-more, all-fails, all-done}
 use Rattle.state.specs.Apart.{absent-apart, present-apart}
 use Rattle.state.proofs.apart_before.Statement.{statement}
 use Rattle.state.proofs.apart_before.Tie as tie
-use Rattle.state.proofs.apart_before.Reads as reads
-use Rattle.state.proofs.apart_before.Lts as lts
-use Rattle.local.proofs.load.Reads as load-reads
-use Rattle.state.proofs.holds.Reads as holds-reads
 
 abbrev Inv-loop : tie.InvT-loop
 Inv-loop locals j tree i₀ i = (i ≤ j) × (allBelow i (λ n. apart 11 (localAt locals j) (localAt locals n)) ≡ true)
@@ -22,54 +18,43 @@ Inv-loop locals j tree i₀ i = (i ≤ j) × (allBelow i (λ n. apart 11 (localA
 abbrev μ-loop : tie.MeasureT-loop
 μ-loop locals j tree i₀ i = j - i
 
--- src/lib.rt:140:9
 load-requires : tie.Need-load-requires Inv-loop μ-loop
 load-requires c κs = search needs
 
--- src/lib.rt:142:9
 returns : tie.Need-returns Inv-loop μ-loop
 returns c = sym (absent-apart 11 (c .before .before .before .before .args .locals .now) (c .before .before .before .before .args .j) (rw (← c .before .before .load .ensures .0) (not-true _ (c .if1 .taken))))
 
--- src/lib.rt:146:5
 loop-holds : tie.Need-loop-holds Inv-loop μ-loop
 loop-holds c = (search needs, all-none _)
 
--- src/lib.rt:147:18
 mul-holds : tie.Need-mul-holds Inv-loop μ-loop
 mul-holds c = search needs
 
--- src/lib.rt:147:18
 shared-slice-read-holds : tie.Need-shared-slice-read-holds Inv-loop μ-loop
 shared-slice-read-holds c = search needs
 
--- src/lib.rt:147:12
 holds-requires : tie.Need-holds-requires Inv-loop μ-loop
 holds-requires c κs = search needs
 
--- src/lib.rt:148:13
 returns-2 : tie.Need-returns-2 Inv-loop μ-loop
 unfolding apartBefore
-returns-2 c = 
+returns-2 c =
     sym (all-fails _ _ (c .before .before .before .before .loop .i) (c .before .before .before .loop-test .taken)
     (present-apart 11 (c .before .before .before .before .before .before .before .before .before .before .args .locals .now) (c .before .before .before .before .loop .i) (c .before .before .before .before .before .before .before .before .before .before .args .j) _ _ (c .before .before .before .before .before .before .before .before .load .ensures .0) (not-false _ (c .before .before .before .before .before .before .if1 .left)) (c .before .holds .ensures) ∙ ap not (c .if2 .taken)))
 
--- src/lib.rt:150:9
 add-i : tie.Need-add-i Inv-loop μ-loop
 add-i c = search needs
 
--- src/lib.rt:146:5
 loop-less : tie.Need-loop-less Inv-loop μ-loop
 loop-less c = search needs
 
--- src/lib.rt:146:5
 loop-again : tie.Need-loop-again Inv-loop μ-loop
 loop-again c = (
   search needs,
   all-more _ _ (c .before .before .before .before .loop .inv .1)
-  (present-apart 11 (c .before .before .before .before .before .before .before .before .before .before .args .locals .now) (c .before .before .before .before .loop .i) (c .before .before .before .before .before .before .before .before .before .before .args .j) _ _ (c .before .before .before .before .before .before .before .before .load .ensures .0) (not-false _ (c .before .before .before .before .before .before .if1 .left)) (c .before .holds .ensures) ∙ ap not (c .if2 .left)),
+      (present-apart 11 (c .before .before .before .before .before .before .before .before .before .before .args .locals .now) (c .before .before .before .before .loop .i) (c .before .before .before .before .before .before .before .before .before .before .args .j) _ _ (c .before .before .before .before .before .before .before .before .load .ensures .0) (not-false _ (c .before .before .before .before .before .before .if1 .left)) (c .before .holds .ensures) ∙ ap not (c .if2 .left)),
 )
 
--- src/lib.rt:136:1
 returns-3 : tie.Need-returns-3 Inv-loop μ-loop
 unfolding apartBefore
 returns-3 c = sym (all-done _ (c .before .loop .i) _ (c .before .loop .inv .0) (c .loop-test .left) (c .before .loop .inv .1))

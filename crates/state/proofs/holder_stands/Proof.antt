@@ -1,74 +1,68 @@
+-- `state::holder_stands` meets its contract. Assumes nothing.
 use Rattle.rules.specs.Policy.{good}
 use Rattle.ways.specs.Standing.{holderStands}
 use borrow.Author.Tests.{le-leb, le-ltb, lt-leb, lt-ltb}
 use borrow.Author.Needs.{needs}
 use Rattle.state.proofs.holder_stands.Statement.{statement}
 use Rattle.state.proofs.holder_stands.Tie as tie
-use Rattle.state.proofs.holder_stands.Reads as reads
-use Rattle.state.proofs.holder_stands.Lts as lts
-use Rattle.bits.proofs.clear_in.Reads as clear-in-reads
-use Rattle.trees.proofs.load.Reads as load-reads
-use Rattle.words.proofs.kind_at.Reads as kind-at-reads
-use Rattle.words.proofs.tree_count.Reads as tree-count-reads
 
--- src/lib.rt:67:12
 tree-count-requires : tie.Need-tree-count-requires
 tree-count-requires c κs = search needs
 
--- src/lib.rt:68:13
 load-requires : tie.Need-load-requires
 load-requires c κs = search needs
 
--- src/lib.rt:70:21
 kind-at-requires : tie.Need-kind-at-requires
 kind-at-requires c κs = search needs
 
--- src/lib.rt:71:24
 add-result : tie.Need-add-result
 add-result c = search needs
 
--- src/lib.rt:71:43
 clear-in-requires : tie.Need-clear-in-requires
 clear-in-requires c κs = search needs
 
--- src/lib.rt:71:17
 returns : tie.Need-returns
 unfolding holderStands good
 returns c =
-    rw (← c .before .before .before .before .before .before .before .before .tree-count .ensures,
-    lt-ltb _ _ (c .before .before .before .before .before .before .before .if1 .taken),
-    ← c .before .before .before .before .before .before .load .ensures .0,
-    c .before .before .before .before .before .if2 .taken,
-    ← c .before .before .before .before .kind-at .ensures,
-    le-leb _ _ (c .before .before .before .if3 .taken),
-    ← c .clear-in .ensures)
+    rw (
+      ← c .before .before .before .before .before .before .before .before .tree-count .ensures,
+      lt-ltb _ _ (c .before .before .before .before .before .before .before .if1 .taken),
+      ← c .before .before .before .before .before .before .load .ensures .0,
+      c .before .before .before .before .before .if2 .taken,
+      ← c .before .before .before .before .kind-at .ensures,
+      le-leb _ _ (c .before .before .before .if3 .taken),
+      ← c .clear-in .ensures,
+    )
 
--- src/lib.rt:73:13
 returns-2 : tie.Need-returns-2
 unfolding holderStands good
 returns-2 c =
-    rw (← c .before .before .before .before .before .tree-count .ensures,
-    lt-ltb _ _ (c .before .before .before .before .if1 .taken),
-    ← c .before .before .before .load .ensures .0,
-    c .before .before .if2 .taken,
-    ← c .before .kind-at .ensures,
-    lt-leb _ _ (c .if3 .left))
+    rw (
+      ← c .before .before .before .before .before .tree-count .ensures,
+      lt-ltb _ _ (c .before .before .before .before .if1 .taken),
+      ← c .before .before .before .load .ensures .0,
+      c .before .before .if2 .taken,
+      ← c .before .kind-at .ensures,
+      lt-leb _ _ (c .if3 .left),
+    )
 
--- src/lib.rt:75:9
 returns-3 : tie.Need-returns-3
 unfolding holderStands good
 returns-3 c =
-    rw (← c .before .before .before .tree-count .ensures,
-    lt-ltb _ _ (c .before .before .if1 .taken),
-    ← c .before .load .ensures .0,
-    c .if2 .left)
+    rw (
+      ← c .before .before .before .tree-count .ensures,
+      lt-ltb _ _ (c .before .before .if1 .taken),
+      ← c .before .load .ensures .0,
+      c .if2 .left,
+    )
 
--- src/lib.rt:62:1
 returns-4 : tie.Need-returns-4
 unfolding holderStands good
 returns-4 c =
-    rw (← c .before .tree-count .ensures,
-    le-ltb _ _ (c .if1 .left))
+    rw (
+      ← c .before .tree-count .ensures,
+      le-ltb _ _ (c .if1 .left),
+    )
 
 pub holder-stands-spec : {M : Type 1} → statement M
 holder-stands-spec =

@@ -1,40 +1,33 @@
+-- `state::local_stands` meets its contract. Assumes nothing.
 use mathlib.Core.Path.{sym, _∙_}
 use Rattle.policy_laws.specs.All.{pick-true}
 use Rattle.ways.specs.Standing.{localStands}
 use borrow.Author.Needs.{needs}
 use Rattle.state.proofs.local_stands.Statement.{statement}
 use Rattle.state.proofs.local_stands.Tie as tie
-use Rattle.state.proofs.local_stands.Reads as reads
-use Rattle.state.proofs.local_stands.Lts as lts
-use Rattle.local.proofs.load.Reads as load-reads
-use Rattle.local.proofs.word.Reads as word-reads
-use Rattle.state.proofs.holder_stands.Reads as holder-stands-reads
 
--- src/lib.rt:85:9
 load-requires : tie.Need-load-requires
 load-requires c κs = search needs
 
--- src/lib.rt:87:9
 holder-stands-requires : tie.Need-holder-stands-requires
 holder-stands-requires c κs = search needs
 
--- src/lib.rt:87:9
 returns : tie.Need-returns
 unfolding localStands
 returns c =
     rw (← c .before .before .load .ensures .0) (c .holder-stands .ensures ∙ sym (pick-true _ _ _ (c .before .if1 .taken)))
 
--- src/lib.rt:89:5
 word-requires : tie.Need-word-requires
 word-requires c κs = search needs
 
--- src/lib.rt:81:1
 returns-2 : tie.Need-returns-2
 unfolding localStands
 returns-2 c =
-    rw (← c .before .before .load .ensures .0,
-    c .before .if1 .left,
-    ← c .word .ensures)
+    rw (
+      ← c .before .before .load .ensures .0,
+      c .before .if1 .left,
+      ← c .word .ensures,
+    )
 
 pub local-stands-spec : {M : Type 1} → statement M
 local-stands-spec =

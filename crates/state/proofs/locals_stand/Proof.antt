@@ -1,52 +1,64 @@
--- `state::locals_stand` meets its contract. The invariant: the test passes at every class passed. The measure: the classes left. Assumes nothing.
+-- `state::locals_stand` meets its contract. The invariant: the test passes at every class passed, and `first` is the number of their locals. The measure: the classes left. Assumes nothing.
 use mathlib.Core.Path.{_≡_, sym, _∙_}
 use mathlib.Core.Bool.{true}
-use Prim.Native.Nat.{_≤_, _-_}
+use Prim.Native.Nat.{_≤_, _-_, _*_}
+use native.Mathlib.Omega.{arith}
 use borrow.Author.Needs.{needs}
 use borrow.Author.Tests.{not-true, not-false}
-use Rattle.rules.specs.Base.{allBelow}
-use Rattle.rules.specs.Words.{config}
+use Rattle.rules.specs.Base.{allBelow, sum}
+use Rattle.rules.specs.Words.{config, localsOf}
 use Rattle.ways.specs.Standing.{classStands}
 use Rattle.policy_laws.specs.All.{all-none, all-more, all-fails, all-done}
+use Rattle.words.specs.Sums.{sum-none, sum-more}
 use Rattle.state.proofs.locals_stand.Statement.{statement}
 use Rattle.state.proofs.locals_stand.Tie as tie
-use Rattle.state.proofs.locals_stand.Reads as reads
-use Rattle.state.proofs.locals_stand.Lts as lts
-use Rattle.state.proofs.class_stands.Reads as class-stands-reads
 
 abbrev Inv-loop : tie.InvT-loop
-Inv-loop h table trees locals bits class₀ class = (class ≤ 8) × (allBelow class (classStands (config h table) trees locals bits) ≡ true)
+Inv-loop h table trees locals bits first₀ class₀ first class =
+    (class ≤ 8) × ((allBelow class (classStands (config h table) trees locals bits) ≡ true) × ((first ≤ 255 * class) × (first ≡ sum (localsOf (h .places)) 0 class)))
 
 abbrev μ-loop : tie.MeasureT-loop
-μ-loop h table trees locals bits class₀ class = 8 - class
+μ-loop h table trees locals bits first₀ class₀ first class = 8 - class
 
--- src/lib.rt:115:5
 loop-holds : tie.Need-loop-holds Inv-loop μ-loop
-loop-holds c = (search needs, all-none _)
+loop-holds c = (search needs, (all-none _, (search needs, rw (sum-none (localsOf (c .before .before .before .args .h .places))))))
 
--- src/lib.rt:116:13
 class-stands-requires : tie.Need-class-stands-requires Inv-loop μ-loop
 class-stands-requires c κs = search needs
 
--- src/lib.rt:117:13
 returns : tie.Need-returns Inv-loop μ-loop
 returns c = sym (all-fails 8 _ (c .before .before .before .loop .class) (c .before .before .loop-test .taken) (sym (c .before .class-stands .ensures) ∙ not-true _ (c .if1 .taken)))
 
--- src/lib.rt:119:9
+locals-of-requires : tie.Need-locals-of-requires Inv-loop μ-loop
+locals-of-requires c κs = search needs
+
+add-first : tie.Need-add-first Inv-loop μ-loop
+add-first c = omega (arith, c .locals-of .ensures .1)
+
 add-class : tie.Need-add-class Inv-loop μ-loop
 add-class c = search needs
 
--- src/lib.rt:115:5
 loop-less : tie.Need-loop-less Inv-loop μ-loop
 loop-less c = search needs
 
--- src/lib.rt:115:5
 loop-again : tie.Need-loop-again Inv-loop μ-loop
-loop-again c = (search needs, all-more _ _ (c .before .before .before .loop .inv .1) (sym (c .before .class-stands .ensures) ∙ not-false _ (c .if1 .left)))
+loop-again c = (
+  search needs,
+  (
+    all-more _ _ (c .before .before .before .before .loop .inv .1 .0) (sym (c .before .before .class-stands .ensures) ∙ not-false _ (c .before .if1 .left)),
+    (
+      omega (arith, c .locals-of .ensures .1),
+      rw (
+        sum-more (localsOf (c .before .before .before .before .before .before .before .before .args .h .places)) (c .before .before .before .before .loop .class),
+        ← c .before .before .before .before .loop .inv .1 .1 .1,
+        ← c .locals-of .ensures .0,
+      ),
+    ),
+  ),
+)
 
--- src/lib.rt:110:1
 returns-2 : tie.Need-returns-2 Inv-loop μ-loop
-returns-2 c = sym (all-done 8 (c .before .loop .class) _ (c .before .loop .inv .0) (c .loop-test .left) (c .before .loop .inv .1))
+returns-2 c = sym (all-done 8 (c .before .loop .class) _ (c .before .loop .inv .0) (c .loop-test .left) (c .before .loop .inv .1 .0))
 
 pub locals-stand-spec : {M : Type 1} → statement M
 locals-stand-spec =
@@ -57,6 +69,8 @@ locals-stand-spec =
     loop-holds
     class-stands-requires
     returns
+    locals-of-requires
+    add-first
     add-class
     loop-less
     loop-again

@@ -10,43 +10,32 @@ use Rattle.ways.specs.Standing.{reservedCount}
 use Rattle.words.specs.Sums.{sum-none, sum-more}
 use Rattle.state.proofs.reserved_count.Statement.{statement}
 use Rattle.state.proofs.reserved_count.Tie as tie
-use Rattle.state.proofs.reserved_count.Reads as reads
-use Rattle.state.proofs.reserved_count.Lts as lts
-use Rattle.state.proofs.bit_of.Reads as bit-of-reads
-use Rattle.trees.proofs.load.Reads as load-reads
 
 abbrev Inv-loop : tie.InvT-loop
-Inv-loop trees count₀ t₀ count t = (t ≤ length trees) × ((count ≤ t) × (count ≡ reservedCount trees t))
+Inv-loop trees reserved₀ t₀ reserved t = (t ≤ length trees) × ((reserved ≤ t) × (reserved ≡ reservedCount trees t))
 
 abbrev μ-loop : tie.MeasureT-loop
-μ-loop trees count₀ t₀ count t = length trees - t
+μ-loop trees reserved₀ t₀ reserved t = length trees - t
 
--- src/lib.rt:182:5
 loop-holds : tie.Need-loop-holds Inv-loop μ-loop
 unfolding reservedCount
 loop-holds c = (search needs, (search needs, rw (sum-none (λ (n : ℕ). bitOf (entryAt (c .before .args .trees .now) n .reserved)))))
 
--- src/lib.rt:183:13
 load-requires : tie.Need-load-requires Inv-loop μ-loop
 load-requires c κs = search needs
 
--- src/lib.rt:184:18
 bit-of-requires : tie.Need-bit-of-requires Inv-loop μ-loop
 bit-of-requires c κs = search needs
 
--- src/lib.rt:184:9
-add-count : tie.Need-add-count Inv-loop μ-loop
-add-count c = omega (arith, c .bit-of .ensures .1)
+add-reserved : tie.Need-add-reserved Inv-loop μ-loop
+add-reserved c = omega (arith, c .bit-of .ensures .1)
 
--- src/lib.rt:185:9
 add-t : tie.Need-add-t Inv-loop μ-loop
 add-t c = search needs
 
--- src/lib.rt:182:5
 loop-less : tie.Need-loop-less Inv-loop μ-loop
 loop-less c = search needs
 
--- src/lib.rt:182:5
 loop-again : tie.Need-loop-again Inv-loop μ-loop
 unfolding reservedCount
 loop-again c = (
@@ -62,7 +51,6 @@ loop-again c = (
   ),
 )
 
--- src/lib.rt:177:1
 returns : tie.Need-returns Inv-loop μ-loop
 returns c =
     let q : c .before .loop .t ≡ length (c .before .before .before .args .trees .now) = omega arith in
@@ -77,7 +65,7 @@ reserved-count-spec =
     loop-holds
     load-requires
     bit-of-requires
-    add-count
+    add-reserved
     add-t
     loop-less
     loop-again

@@ -1,159 +1,149 @@
+-- `state::stands` meets its contract. Assumes nothing.
 use mathlib.Core.Path.{sym, _∙_}
-use Rattle.state.specs.Exact.{frames-most, exact-says}
+use Rattle.state.specs.Exact.{frames-most, exact-says, locals-say}
 use Rattle.ways.specs.Standing.{standing, pastHeld}
 use borrow.Author.Tests.{eq-eqb, ne-eqb}
 use borrow.Author.Needs.{needs}
 use Rattle.state.proofs.stands.Statement.{statement}
 use Rattle.state.proofs.stands.Tie as tie
-use Rattle.state.proofs.stands.Reads as reads
-use Rattle.state.proofs.stands.Lts as lts
-use Rattle.accept.proofs.accepts.Reads as accepts-reads
-use Rattle.bits.proofs.past_held.Reads as past-held-reads
-use Rattle.state.proofs.apart.Reads as apart-reads
-use Rattle.state.proofs.entries_stand.Reads as entries-stand-reads
-use Rattle.state.proofs.lengths_exact.Reads as lengths-exact-reads
-use Rattle.state.proofs.locals_stand.Reads as locals-stand-reads
-use Rattle.state.proofs.present_count.Reads as present-count-reads
-use Rattle.state.proofs.reserved_count.Reads as reserved-count-reads
 
--- src/lib.rt:208:8
 accepts-requires : tie.Need-accepts-requires
 accepts-requires c κs = search needs
 
--- src/lib.rt:209:12
 lengths-exact-requires : tie.Need-lengths-exact-requires
 lengths-exact-requires c κs = frames-most _ (sym (c .before .accepts .ensures) ∙ c .if1 .taken)
 
--- src/lib.rt:210:16
 entries-stand-requires : tie.Need-entries-stand-requires
 entries-stand-requires c κs =
     exact-says _ _ _ _ (sym (c .before .before .before .accepts .ensures) ∙ c .before .before .if1 .taken) (sym (c .before .lengths-exact .ensures) ∙ c .if2 .taken)
 
--- src/lib.rt:211:20
 locals-stand-requires : tie.Need-locals-stand-requires
 locals-stand-requires c κs =
     exact-says _ _ _ _ (sym (c .before .before .before .before .before .accepts .ensures) ∙ c .before .before .before .before .if1 .taken) (sym (c .before .before .before .lengths-exact .ensures) ∙ c .before .before .if2 .taken)
 
--- src/lib.rt:212:24
 apart-requires : tie.Need-apart-requires
 apart-requires c κs = search needs
 
--- src/lib.rt:213:28
 reserved-count-requires : tie.Need-reserved-count-requires
 reserved-count-requires c κs = search needs
 
--- src/lib.rt:213:53
 present-count-requires : tie.Need-present-count-requires
 present-count-requires c κs = search needs
 
--- src/lib.rt:214:29
 past-held-requires : tie.Need-past-held-requires
 past-held-requires c κs = search needs
 
--- src/lib.rt:214:29
 returns : tie.Need-returns
 unfolding standing pastHeld
 returns c =
     let x = exact-says _ _ _ _ (sym (c .before .before .before .before .before .before .before .before .before .before .before .before .before .accepts .ensures) ∙ c .before .before .before .before .before .before .before .before .before .before .before .before .if1 .taken) (sym (c .before .before .before .before .before .before .before .before .before .before .before .lengths-exact .ensures) ∙ c .before .before .before .before .before .before .before .before .before .before .if2 .taken) in
-    rw (← c .before .before .before .before .before .before .before .before .before .before .before .before .before .accepts .ensures,
-    c .before .before .before .before .before .before .before .before .before .before .before .before .if1 .taken,
-    ← c .before .before .before .before .before .before .before .before .before .before .before .lengths-exact .ensures,
-    c .before .before .before .before .before .before .before .before .before .before .if2 .taken,
-    ← x .entries,
-    ← c .before .before .before .before .before .before .before .before .before .entries-stand .ensures,
-    c .before .before .before .before .before .before .before .before .if3 .taken,
-    ← c .before .before .before .before .before .before .before .locals-stand .ensures,
-    c .before .before .before .before .before .before .if4 .taken,
-    ← x .locals,
-    ← c .before .before .before .before .before .apart .ensures,
-    c .before .before .before .before .if5 .taken,
-    ← c .before .before .before .reserved-count .ensures,
-    ← c .before .before .present-count .ensures,
-    eq-eqb _ _ (c .before .if6 .taken),
-    ← c .past-held .ensures)
+    rw (
+      ← c .before .before .before .before .before .before .before .before .before .before .before .before .before .accepts .ensures,
+      c .before .before .before .before .before .before .before .before .before .before .before .before .if1 .taken,
+      ← c .before .before .before .before .before .before .before .before .before .before .before .lengths-exact .ensures,
+      c .before .before .before .before .before .before .before .before .before .before .if2 .taken,
+      ← x .entries,
+      ← c .before .before .before .before .before .before .before .before .before .entries-stand .ensures,
+      c .before .before .before .before .before .before .before .before .if3 .taken,
+      ← c .before .before .before .before .before .before .before .locals-stand .ensures,
+      c .before .before .before .before .before .before .if4 .taken,
+      ← locals-say _ _ _ _ (sym (c .before .before .before .before .before .before .before .before .before .before .before .lengths-exact .ensures) ∙ c .before .before .before .before .before .before .before .before .before .before .if2 .taken),
+      ← c .before .before .before .before .before .apart .ensures,
+      c .before .before .before .before .if5 .taken,
+      ← c .before .before .before .reserved-count .ensures,
+      ← c .before .before .present-count .ensures,
+      eq-eqb _ _ (c .before .if6 .taken),
+      ← c .past-held .ensures,
+    )
 
--- src/lib.rt:216:25
 returns-2 : tie.Need-returns-2
 unfolding standing pastHeld
 returns-2 c =
     let x = exact-says _ _ _ _ (sym (c .before .before .before .before .before .before .before .before .before .before .before .before .accepts .ensures) ∙ c .before .before .before .before .before .before .before .before .before .before .before .if1 .taken) (sym (c .before .before .before .before .before .before .before .before .before .before .lengths-exact .ensures) ∙ c .before .before .before .before .before .before .before .before .before .if2 .taken) in
-    rw (← c .before .before .before .before .before .before .before .before .before .before .before .before .accepts .ensures,
-    c .before .before .before .before .before .before .before .before .before .before .before .if1 .taken,
-    ← c .before .before .before .before .before .before .before .before .before .before .lengths-exact .ensures,
-    c .before .before .before .before .before .before .before .before .before .if2 .taken,
-    ← x .entries,
-    ← c .before .before .before .before .before .before .before .before .entries-stand .ensures,
-    c .before .before .before .before .before .before .before .if3 .taken,
-    ← c .before .before .before .before .before .before .locals-stand .ensures,
-    c .before .before .before .before .before .if4 .taken,
-    ← x .locals,
-    ← c .before .before .before .before .apart .ensures,
-    c .before .before .before .if5 .taken,
-    ← c .before .before .reserved-count .ensures,
-    ← c .before .present-count .ensures,
-    ne-eqb _ _ (c .if6 .left))
+    rw (
+      ← c .before .before .before .before .before .before .before .before .before .before .before .before .accepts .ensures,
+      c .before .before .before .before .before .before .before .before .before .before .before .if1 .taken,
+      ← c .before .before .before .before .before .before .before .before .before .before .lengths-exact .ensures,
+      c .before .before .before .before .before .before .before .before .before .if2 .taken,
+      ← x .entries,
+      ← c .before .before .before .before .before .before .before .before .entries-stand .ensures,
+      c .before .before .before .before .before .before .before .if3 .taken,
+      ← c .before .before .before .before .before .before .locals-stand .ensures,
+      c .before .before .before .before .before .if4 .taken,
+      ← locals-say _ _ _ _ (sym (c .before .before .before .before .before .before .before .before .before .before .lengths-exact .ensures) ∙ c .before .before .before .before .before .before .before .before .before .if2 .taken),
+      ← c .before .before .before .before .apart .ensures,
+      c .before .before .before .if5 .taken,
+      ← c .before .before .reserved-count .ensures,
+      ← c .before .present-count .ensures,
+      ne-eqb _ _ (c .if6 .left),
+    )
 
--- src/lib.rt:218:21
 returns-3 : tie.Need-returns-3
 unfolding standing pastHeld
 returns-3 c =
     let x = exact-says _ _ _ _ (sym (c .before .before .before .before .before .before .before .before .before .accepts .ensures) ∙ c .before .before .before .before .before .before .before .before .if1 .taken) (sym (c .before .before .before .before .before .before .before .lengths-exact .ensures) ∙ c .before .before .before .before .before .before .if2 .taken) in
-    rw (← c .before .before .before .before .before .before .before .before .before .accepts .ensures,
-    c .before .before .before .before .before .before .before .before .if1 .taken,
-    ← c .before .before .before .before .before .before .before .lengths-exact .ensures,
-    c .before .before .before .before .before .before .if2 .taken,
-    ← x .entries,
-    ← c .before .before .before .before .before .entries-stand .ensures,
-    c .before .before .before .before .if3 .taken,
-    ← c .before .before .before .locals-stand .ensures,
-    c .before .before .if4 .taken,
-    ← x .locals,
-    ← c .before .apart .ensures,
-    c .if5 .left)
+    rw (
+      ← c .before .before .before .before .before .before .before .before .before .accepts .ensures,
+      c .before .before .before .before .before .before .before .before .if1 .taken,
+      ← c .before .before .before .before .before .before .before .lengths-exact .ensures,
+      c .before .before .before .before .before .before .if2 .taken,
+      ← x .entries,
+      ← c .before .before .before .before .before .entries-stand .ensures,
+      c .before .before .before .before .if3 .taken,
+      ← c .before .before .before .locals-stand .ensures,
+      c .before .before .if4 .taken,
+      ← locals-say _ _ _ _ (sym (c .before .before .before .before .before .before .before .lengths-exact .ensures) ∙ c .before .before .before .before .before .before .if2 .taken),
+      ← c .before .apart .ensures,
+      c .if5 .left,
+    )
 
--- src/lib.rt:220:17
 returns-4 : tie.Need-returns-4
 unfolding standing pastHeld
 returns-4 c =
     let x = exact-says _ _ _ _ (sym (c .before .before .before .before .before .before .before .accepts .ensures) ∙ c .before .before .before .before .before .before .if1 .taken) (sym (c .before .before .before .before .before .lengths-exact .ensures) ∙ c .before .before .before .before .if2 .taken) in
-    rw (← c .before .before .before .before .before .before .before .accepts .ensures,
-    c .before .before .before .before .before .before .if1 .taken,
-    ← c .before .before .before .before .before .lengths-exact .ensures,
-    c .before .before .before .before .if2 .taken,
-    ← x .entries,
-    ← c .before .before .before .entries-stand .ensures,
-    c .before .before .if3 .taken,
-    ← c .before .locals-stand .ensures,
-    c .if4 .left)
+    rw (
+      ← c .before .before .before .before .before .before .before .accepts .ensures,
+      c .before .before .before .before .before .before .if1 .taken,
+      ← c .before .before .before .before .before .lengths-exact .ensures,
+      c .before .before .before .before .if2 .taken,
+      ← x .entries,
+      ← c .before .before .before .entries-stand .ensures,
+      c .before .before .if3 .taken,
+      ← c .before .locals-stand .ensures,
+      c .if4 .left,
+    )
 
--- src/lib.rt:222:13
 returns-5 : tie.Need-returns-5
 unfolding standing pastHeld
 returns-5 c =
     let x = exact-says _ _ _ _ (sym (c .before .before .before .before .before .accepts .ensures) ∙ c .before .before .before .before .if1 .taken) (sym (c .before .before .before .lengths-exact .ensures) ∙ c .before .before .if2 .taken) in
-    rw (← c .before .before .before .before .before .accepts .ensures,
-    c .before .before .before .before .if1 .taken,
-    ← c .before .before .before .lengths-exact .ensures,
-    c .before .before .if2 .taken,
-    ← x .entries,
-    ← c .before .entries-stand .ensures,
-    c .if3 .left)
+    rw (
+      ← c .before .before .before .before .before .accepts .ensures,
+      c .before .before .before .before .if1 .taken,
+      ← c .before .before .before .lengths-exact .ensures,
+      c .before .before .if2 .taken,
+      ← x .entries,
+      ← c .before .entries-stand .ensures,
+      c .if3 .left,
+    )
 
--- src/lib.rt:224:9
 returns-6 : tie.Need-returns-6
 unfolding standing pastHeld
 returns-6 c =
-    rw (← c .before .before .before .accepts .ensures,
-    c .before .before .if1 .taken,
-    ← c .before .lengths-exact .ensures,
-    c .if2 .left)
+    rw (
+      ← c .before .before .before .accepts .ensures,
+      c .before .before .if1 .taken,
+      ← c .before .lengths-exact .ensures,
+      c .if2 .left,
+    )
 
--- src/lib.rt:205:1
 returns-7 : tie.Need-returns-7
 unfolding standing pastHeld
 returns-7 c =
-    rw (← c .before .accepts .ensures,
-    c .if1 .left)
+    rw (
+      ← c .before .accepts .ensures,
+      c .if1 .left,
+    )
 
 pub stands-spec : {M : Type 1} → statement M
 stands-spec =

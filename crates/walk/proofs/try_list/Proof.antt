@@ -39,8 +39,16 @@ abbrev μ-loop : tie.MeasureT-loop
 
 loop-holds : tie.Need-loop-holds Inv-loop μ-loop
 loop-holds c =
-    record { most = search needs; seen-most = search needs; asked-most = search needs; places = search needs;
-    len-t = search needs; len-l = search needs; len-b = search needs; same-list = rw from-first }
+    record {
+      most = search needs;
+      seen-most = search needs;
+      asked-most = search needs;
+      places = search needs;
+      len-t = search needs;
+      len-l = search needs;
+      len-b = search needs;
+      same-list = rw from-first;
+    }
 
 mul-x : tie.Need-mul-x Inv-loop μ-loop
 mul-x c = search needs
@@ -84,9 +92,15 @@ unfolding tryList
 returns-2 c =
     let l = c .before .before .before .before .before .before .before .before .before .before .before .before .before .before .loop in
     let t = c .before .before .before .before .before .before .before .before .before .before .before .before .before .loop-test .taken in
-    let v = c .before .before .before .before .before .before .before .before .access in
-    (rw (← l .inv .same-list, from-more _ _ _ t (l .inv .places) (c .before .before .before .before .before .before .before .before .before .before .before .before .if1 .left), ← v .ensures .0,
-    else-ends _ _ _ (sym (c .before .ends .ensures) ∙ c .if2 .taken)), search needs)
+    let v = c .before .before .before .before .before .before .before .before .access in (
+      rw (
+        ← l .inv .same-list,
+        from-more _ _ _ t (l .inv .places) (c .before .before .before .before .before .before .before .before .before .before .before .before .if1 .left),
+        ← v .ensures .0,
+        else-ends _ _ _ (sym (c .before .ends .ensures) ∙ c .if2 .taken),
+      ),
+      search needs,
+    )
 
 add-k : tie.Need-add-k Inv-loop μ-loop
 add-k c = search needs
@@ -100,10 +114,20 @@ loop-again c =
     let l = c .before .before .before .before .before .before .before .before .before .before .before .before .before .before .loop in
     let t = c .before .before .before .before .before .before .before .before .before .before .before .before .before .loop-test .taken in
     let v = c .before .before .before .before .before .before .before .before .access in
-    record { most = search needs; seen-most = search needs; asked-most = search needs; places = search needs;
-    len-t = search needs; len-l = search needs; len-b = search needs;
-    same-list = rw (from-more _ _ _ t (l .inv .places) (c .before .before .before .before .before .before .before .before .before .before .before .before .if1 .left), ← v .ensures .0,
-    else-goes _ _ _ (sym (c .before .ends .ensures) ∙ c .if2 .left)) at (l .inv .same-list) }
+    record {
+      most = search needs;
+      seen-most = search needs;
+      asked-most = search needs;
+      places = search needs;
+      len-t = search needs;
+      len-l = search needs;
+      len-b = search needs;
+      same-list = rw (
+        from-more _ _ _ t (l .inv .places) (c .before .before .before .before .before .before .before .before .before .before .before .before .if1 .left),
+        ← v .ensures .0,
+        else-goes _ _ _ (sym (c .before .ends .ensures) ∙ c .if2 .left),
+      ) at (l .inv .same-list);
+    }
 
 same-length-7 : tie.Need-same-length-7 Inv-loop μ-loop
 same-length-7 c = search needs

@@ -41,8 +41,16 @@ abbrev μ-loop : tie.MeasureT-loop
 
 loop-holds : tie.Need-loop-holds Inv-loop μ-loop
 loop-holds c =
-    record { low = search needs; far = search needs; seen-most = search needs; asked-most = search needs;
-    len-t = search needs; len-l = search needs; len-b = search needs; walked = rw list-empty }
+    record {
+      low = search needs;
+      far = search needs;
+      seen-most = search needs;
+      asked-most = search needs;
+      len-t = search needs;
+      len-l = search needs;
+      len-b = search needs;
+      walked = rw list-empty;
+    }
 
 place-requires : tie.Need-place-requires Inv-loop μ-loop
 place-requires c κs = search needs
@@ -65,9 +73,16 @@ same-length-3 c = search needs
 returns : tie.Need-returns Inv-loop μ-loop
 returns c =
     let l = c .before .before .before .before .before .before .before .before .before .before .before .before .before .before .loop in
-    let v = c .before .before .before .before .before .before .before .before .visit in
-    (rw (← l .inv .walked, walk-more _ _ _ _ _ _ _ _ _ _ _ (c .before .before .before .before .before .before .before .before .before .before .before .before .before .loop-test .taken), ← c .before .before .before .before .before .before .before .before .before .before .before .before .place .ensures .0, ← v .ensures .0,
-    sight-ends _ _ _ _ (sym (c .before .ends .ensures) ∙ c .if1 .taken)), search needs)
+    let v = c .before .before .before .before .before .before .before .before .visit in (
+      rw (
+        ← l .inv .walked,
+        walk-more _ _ _ _ _ _ _ _ _ _ _ (c .before .before .before .before .before .before .before .before .before .before .before .before .before .loop-test .taken),
+        ← c .before .before .before .before .before .before .before .before .before .before .before .before .place .ensures .0,
+        ← v .ensures .0,
+        sight-ends _ _ _ _ (sym (c .before .ends .ensures) ∙ c .if1 .taken),
+      ),
+      search needs,
+    )
 
 add-i : tie.Need-add-i Inv-loop μ-loop
 add-i c = search needs
@@ -79,10 +94,21 @@ loop-again : tie.Need-loop-again Inv-loop μ-loop
 loop-again c =
     let l = c .before .before .before .before .before .before .before .before .before .before .before .before .before .before .before .loop in
     let v = c .before .before .before .before .before .before .before .before .before .visit in
-    record { low = search needs; far = search needs; seen-most = search needs; asked-most = search needs;
-    len-t = search needs; len-l = search needs; len-b = search needs;
-    walked = rw (walk-more _ _ _ _ _ _ _ _ _ _ _ (c .before .before .before .before .before .before .before .before .before .before .before .before .before .before .loop-test .taken), ← c .before .before .before .before .before .before .before .before .before .before .before .before .before .place .ensures .0, ← v .ensures .0,
-    sight-goes _ _ _ _ (sym (c .before .before .ends .ensures) ∙ c .before .if1 .left)) at (l .inv .walked) }
+    record {
+      low = search needs;
+      far = search needs;
+      seen-most = search needs;
+      asked-most = search needs;
+      len-t = search needs;
+      len-l = search needs;
+      len-b = search needs;
+      walked = rw (
+        walk-more _ _ _ _ _ _ _ _ _ _ _ (c .before .before .before .before .before .before .before .before .before .before .before .before .before .before .loop-test .taken),
+        ← c .before .before .before .before .before .before .before .before .before .before .before .before .before .place .ensures .0,
+        ← v .ensures .0,
+        sight-goes _ _ _ _ (sym (c .before .before .ends .ensures) ∙ c .before .if1 .left),
+      ) at (l .inv .walked);
+    }
 
 same-length-4 : tie.Need-same-length-4 Inv-loop μ-loop
 same-length-4 c = search needs

@@ -1,0 +1,51 @@
+-- `search::search_and_reserve` meets its contract. Assumes nothing.
+use Rattle.ways.specs.Search.{searchAndReserve}
+use borrow.Author.Needs.{needs}
+use Rattle.search.proofs.search_and_reserve.Statement.{statement}
+use Rattle.search.proofs.search_and_reserve.Tie as tie
+use Rattle.search.proofs.search_and_reserve.Reads as reads
+use Rattle.search.proofs.search_and_reserve.Lts as lts
+use Rattle.search.proofs.count.Reads as count-reads
+use Rattle.search.proofs.rounded_start.Reads as rounded-start-reads
+use Rattle.search.proofs.search_from.Reads as search-from-reads
+
+count-requires : tie.Need-count-requires
+count-requires c κs = search needs
+
+rounded-start-requires : tie.Need-rounded-start-requires
+rounded-start-requires c κs = search needs
+
+search-from-requires : tie.Need-search-from-requires
+search-from-requires c κs = search needs
+
+same-length : tie.Need-same-length
+same-length c = search needs
+
+same-length-2 : tie.Need-same-length-2
+same-length-2 c = search needs
+
+same-length-3 : tie.Need-same-length-3
+same-length-3 c = search needs
+
+returns : tie.Need-returns
+unfolding searchAndReserve
+returns c = (
+  rw (
+    ← c .before .before .before .before .before .before .before .before .before .before .before .count .ensures .0,
+    ← c .before .before .before .before .before .before .before .before .before .before .rounded-start .ensures .0,
+    ← c .before .before .before .before .before .before .search-from .ensures .0,
+  ),
+  search needs,
+)
+
+pub search-and-reserve-spec : {M : Type 1} → statement M
+search-and-reserve-spec =
+    tie.close
+    (tie.spec
+    count-requires
+    rounded-start-requires
+    search-from-requires
+    same-length
+    same-length-2
+    same-length-3
+    returns)
