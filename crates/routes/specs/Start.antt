@@ -1,5 +1,6 @@
 -- A tree that a failed own reservation gives as the start of a search comes out of a local's word, and is small. Assumes nothing.
-use mathlib.Core.Path.{_≡_, refl, sym, subst}
+use mathlib.Core.Path.{_≡_, refl, sym, ap, _∙_, subst}
+use native.Mathlib.Nat.{div-le-self, mul-le-mul-right, le-trans}
 use Prim.Native.Nat.{ℕ, zero, suc, _+_, _-_, _*_, _/_, _^_, _<_, _≤_}
 use native.Mathlib.Omega.{arith}
 use mathlib.Core.List.{List}
@@ -53,5 +54,12 @@ module _ (h : Header) (pairs : List ℕ) (q : Request) (name : Name) (j : ℕ) (
   local-small k s = take-small (topUp k c q name j) (top-small k) s
 
   -- so where an own local answers with its tree
-  pub start-small : (k t : ℕ) (s e : State) → out (Got.MissedAt t) e ≡ getLocal k c q name j s → t < 2 ^ 44
-  start-small k t s e p = subst Small (sym p) (local-small k s)
+  pub start-small : (k t : ℕ) (g : Got) (s e : State) → out g e ≡ getLocal k c q name j s → g ≡ Got.MissedAt t → t < 2 ^ 44
+  start-small k t g s e p r = subst Small (sym (ap (λ (x : Got). out x e) (sym r) ∙ p)) (local-small k s)
+
+-- the start tree of a local
+pub start-fits : (n m i : ℕ) → n ≤ 1024 → i < 2 ^ 32 → n / m * i < 2 ^ 44
+start-fits n m i h l =
+    let d : n / m ≤ n = div-le-self n m in
+    let e : n / m * i ≤ 1024 * i = mul-le-mul-right i (le-trans d h) in
+    omega arith

@@ -9,6 +9,7 @@ ghost use mathlib.Core.Path.{_≡_};
 ghost use Prim.Native.Nat.{_+_, _*_, _/_, _^_, _<_, _≤_};
 ghost use Rattle.rules.specs.Words.{config};
 ghost use Rattle.rules.specs.declared.Name.the-variants.{Any, Frame};
+ghost use Rattle.rules.specs.declared.Given.the-variants as Given;
 ghost use Rattle.ways.specs.State.{st, ended, indexOf, orElse};
 ghost use Rattle.ways.specs.Walk.{stealGlobal};
 ghost use Rattle.ways.specs.Get.{lastRoutes, getAt, startTree, getReserving, searchTrees, getAny, routes};
@@ -105,21 +106,24 @@ fn get_at(
     }
 }
 
-// The start tree: (n / locals, rounded down) times the local, or 0 with no local or no locals.
-fn start_tree(h: Header, table: &[u32; 64], q: Request, local: Given) -> usize
-    requires { ⌜ Fits h q × (indexOf local < 2 ^ 32) ⌝ }
-    ensures { λ r. ⌜ (r ≡ startTree (config h (now (table .entry))) q local) × (r < 2 ^ 44) ⌝ }
+// n / m, rounded down, times i.
+fn portion(n: usize, m: usize, i: usize) -> usize
+    requires { ⌜ (0 < m) × ((n ≤ 1024) × (i < 2 ^ 32)) ⌝ }
+    ensures { λ r. ⌜ (r ≡ n / m * i) × (r < 2 ^ 44) ⌝ }
 {
-    match local {
-        Given::Local(i) => {
-            let m = words::locals_of(h, q.class);
-            if m == 0 {
-                return 0;
-            }
-            words::tree_count(h.frames) / m * i
-        }
-        Given::Nothing => 0,
+    n / m * i
+}
+
+// The start tree of the local i: (n / locals, rounded down) times the local, or 0 with no locals.
+fn start_tree(h: Header, table: &[u32; 64], q: Request, i: usize) -> usize
+    requires { ⌜ Fits h q × (i < 2 ^ 32) ⌝ }
+    ensures { λ r. ⌜ (r ≡ startTree (config h (now (table .entry))) q (Given.Local i)) × (r < 2 ^ 44) ⌝ }
+{
+    let m = words::locals_of(h, q.class);
+    if m == 0 {
+        return 0;
     }
+    portion(search::count(h.frames), m, i)
 }
 
 // Own local, then reserving search; a present own reservation that failed gives its tree as the start.
@@ -183,17 +187,17 @@ fn search_trees(
         ≡ searchTrees (config h (now (table .entry))) q local (st (now (trees .entry)) (now (locals .entry)) (now (bits .entry)) looks tries))
         × ((r .looks ≤ looks + 4096) × (r .tries ≤ tries + 8193)) ⌝ }
 {
-    let start = start_tree(h, table, q, local);
     match local {
         Given::Local(i) => {
-            if words::locals_of(h, q.class) < words::tree_count(h.frames) {
+            let start = start_tree(h, table, q, i);
+            if words::locals_of(h, q.class) < search::count(h.frames) {
                 let j = words::slot(h, q.class, i);
                 return get_reserving(h, table, trees, locals, bits, q, j, start, looks, tries);
             }
             search::search_and_steal(h, table, trees, locals, bits, q, start, looks, tries)
         }
         Given::Nothing => {
-            search::search_and_steal(h, table, trees, locals, bits, q, start, looks, tries)
+            search::search_and_steal(h, table, trees, locals, bits, q, 0, looks, tries)
         }
     }
 }
