@@ -1,0 +1,26 @@
+use mathlib.Core.Path.{refl}
+use Prim.Native.Nat.{_*_, _/_, _^_, _<_}
+use native.Mathlib.Omega.{arith}
+use Rattle.routes.specs.Start.{start-fits}
+use borrow.Author.Needs.{needs}
+use Rattle.routes.proofs.portion.Statement.{statement}
+use Rattle.routes.proofs.portion.Tie as tie
+use Rattle.routes.proofs.portion.Reads as reads
+use Rattle.routes.proofs.portion.Lts as lts
+
+-- src/lib.rt:114:5
+div-result : tie.Need-div-result
+div-result c = search needs
+
+-- src/lib.rt:114:5
+mul-result : tie.Need-mul-result
+mul-result c =
+    let f : c .args .n / c .args .m * c .args .i < 2 ^ 44 = start-fits _ _ _ (c .pre .1 .0) (c .pre .1 .1) in
+    omega arith
+
+-- src/lib.rt:110:1
+returns : tie.Need-returns
+returns c = (refl, start-fits _ _ _ (c .pre .1 .0) (c .pre .1 .1))
+
+pub portion-spec : {M : Type 1} → statement M
+portion-spec = tie.close (tie.spec div-result mul-result returns)

@@ -1,0 +1,2 @@
+-- where a reserving search starts
+pub mod Start

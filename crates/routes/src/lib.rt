@@ -1,0 +1,263 @@
+// llfree.rs, get and get_at: the routes of get in their order.
+use rules::Given;
+use rules::Header;
+use rules::Name;
+use rules::Request;
+use ways::Got;
+use ways::Routed;
+ghost use mathlib.Core.Path.{_≡_};
+ghost use Prim.Native.Nat.{_+_, _*_, _/_, _^_, _<_, _≤_};
+ghost use Rattle.rules.specs.Words.{config};
+ghost use Rattle.rules.specs.declared.Name.the-variants.{Any, Frame};
+ghost use Rattle.rules.specs.declared.Given.the-variants as Given;
+ghost use Rattle.ways.specs.State.{st, ended, indexOf, orElse};
+ghost use Rattle.ways.specs.Walk.{stealGlobal};
+ghost use Rattle.ways.specs.Get.{lastRoutes, getAt, startTree, getReserving, searchTrees, getAny, routes};
+ghost use Rattle.ways.specs.Fits.{Fits};
+
+// Where the own local came back empty: steal globally from the named frame's tree; steal from locals; demote.
+fn after_own(
+    h: Header,
+    table: &[u32; 64],
+    trees: &mut [u32],
+    locals: &mut [u64],
+    bits: &mut [u64],
+    q: Request,
+    f: usize,
+    looks: usize,
+    tries: usize,
+) -> Routed
+    requires { ⌜ Fits h q × ((looks < 2 ^ 30) × (tries < 2 ^ 30)) ⌝ }
+    ensures { λ r. ⌜ (ended r (now (trees .exit)) (now (locals .exit)) (now (bits .exit))
+        ≡ orElse (stealGlobal (config h (now (table .entry))) q (Frame f) (f / 2048) (st (now (trees .entry)) (now (locals .entry)) (now (bits .entry)) looks tries))
+        (lastRoutes (config h (now (table .entry))) q (Frame f)))
+        × ((r .looks ≤ looks) × (r .tries ≤ tries + 3)) ⌝ }
+{
+    let name = Name::Frame(f);
+    let r = steal::steal_global(
+        h,
+        table,
+        trees,
+        locals,
+        bits,
+        q,
+        name,
+        f / 2048,
+        looks,
+        tries,
+    );
+    let got = r.got;
+    match got {
+        Got::Done { frame: _, class: _ } => r,
+        Got::Missed => others::last_routes(
+            h,
+            table,
+            trees,
+            locals,
+            bits,
+            q,
+            name,
+            r.looks,
+            r.tries,
+        ),
+        Got::MissedAt(_) => {
+            others::last_routes(h, table, trees, locals, bits, q, name, r.looks, r.tries)
+        }
+        Got::Stuck => r,
+    }
+}
+
+// Named frame: own local if given; steal globally from its tree; steal from locals; demote.
+fn get_at(
+    h: Header,
+    table: &[u32; 64],
+    trees: &mut [u32],
+    locals: &mut [u64],
+    bits: &mut [u64],
+    q: Request,
+    f: usize,
+    looks: usize,
+    tries: usize,
+) -> Routed
+    requires { ⌜ Fits h q × ((looks < 2 ^ 27) × (tries < 2 ^ 27)) ⌝ }
+    ensures { λ r. ⌜ (ended r (now (trees .exit)) (now (locals .exit)) (now (bits .exit))
+        ≡ getAt (config h (now (table .entry))) q f (st (now (trees .entry)) (now (locals .entry)) (now (bits .entry)) looks tries))
+        × ((r .looks ≤ looks) × (r .tries ≤ tries + 4)) ⌝ }
+{
+    let local = q.local;
+    let r = take::own_local(
+        h,
+        table,
+        trees,
+        locals,
+        bits,
+        q,
+        Name::Frame(f),
+        local,
+        looks,
+        tries,
+    );
+    let got = r.got;
+    match got {
+        Got::Done { frame: _, class: _ } => r,
+        Got::Missed => after_own(h, table, trees, locals, bits, q, f, r.looks, r.tries),
+        Got::MissedAt(_) => after_own(h, table, trees, locals, bits, q, f, r.looks, r.tries),
+        Got::Stuck => r,
+    }
+}
+
+// n / m, rounded down, times i.
+fn portion(n: usize, m: usize, i: usize) -> usize
+    requires { ⌜ (0 < m) × ((n ≤ 1024) × (i < 2 ^ 32)) ⌝ }
+    ensures { λ r. ⌜ (r ≡ n / m * i) × (r < 2 ^ 44) ⌝ }
+{
+    n / m * i
+}
+
+// The start tree of the local i: (n / locals, rounded down) times the local, or 0 with no locals.
+fn start_tree(h: Header, table: &[u32; 64], q: Request, i: usize) -> usize
+    requires { ⌜ Fits h q × (i < 2 ^ 32) ⌝ }
+    ensures { λ r. ⌜ (r ≡ startTree (config h (now (table .entry))) q (Given.Local i)) × (r < 2 ^ 44) ⌝ }
+{
+    let m = words::locals_of(h, q.class);
+    if m == 0 {
+        return 0;
+    }
+    portion(search::count(h.frames), m, i)
+}
+
+// Own local, then reserving search; a present own reservation that failed gives its tree as the start.
+fn get_reserving(
+    h: Header,
+    table: &[u32; 64],
+    trees: &mut [u32],
+    locals: &mut [u64],
+    bits: &mut [u64],
+    q: Request,
+    j: usize,
+    start: usize,
+    looks: usize,
+    tries: usize,
+) -> Routed
+    requires { ⌜ Fits h q × ((start < 2 ^ 44) × ((looks < 2 ^ 27) × (tries < 2 ^ 27))) ⌝ }
+    ensures { λ r. ⌜ (ended r (now (trees .exit)) (now (locals .exit)) (now (bits .exit))
+        ≡ getReserving (config h (now (table .entry))) q j start (st (now (trees .entry)) (now (locals .entry)) (now (bits .entry)) looks tries))
+        × ((r .looks ≤ looks + 4096) × (r .tries ≤ tries + 8193)) ⌝ }
+{
+    let r = take::get_local(
+        h,
+        table,
+        trees,
+        locals,
+        bits,
+        q,
+        Name::Any,
+        j,
+        1,
+        looks,
+        tries,
+    );
+    let got = r.got;
+    match got {
+        Got::Done { frame: _, class: _ } => r,
+        Got::Missed => {
+            search::search_and_reserve(h, table, trees, locals, bits, q, j, start, r.looks, r.tries)
+        }
+        Got::MissedAt(t) => {
+            search::search_and_reserve(h, table, trees, locals, bits, q, j, t, r.looks, r.tries)
+        }
+        Got::Stuck => r,
+    }
+}
+
+// If a local is given and the class has fewer locals than trees, own local, then reserving search; else stealing search.
+fn search_trees(
+    h: Header,
+    table: &[u32; 64],
+    trees: &mut [u32],
+    locals: &mut [u64],
+    bits: &mut [u64],
+    q: Request,
+    local: Given,
+    looks: usize,
+    tries: usize,
+) -> Routed
+    requires { ⌜ Fits h q × ((indexOf local < 2 ^ 32) × ((looks < 2 ^ 27) × (tries < 2 ^ 27))) ⌝ }
+    ensures { λ r. ⌜ (ended r (now (trees .exit)) (now (locals .exit)) (now (bits .exit))
+        ≡ searchTrees (config h (now (table .entry))) q local (st (now (trees .entry)) (now (locals .entry)) (now (bits .entry)) looks tries))
+        × ((r .looks ≤ looks + 4096) × (r .tries ≤ tries + 8193)) ⌝ }
+{
+    match local {
+        Given::Local(i) => {
+            let start = start_tree(h, table, q, i);
+            if words::locals_of(h, q.class) < search::count(h.frames) {
+                let j = words::slot(h, q.class, i);
+                return get_reserving(h, table, trees, locals, bits, q, j, start, looks, tries);
+            }
+            search::search_and_steal(h, table, trees, locals, bits, q, start, looks, tries)
+        }
+        Given::Nothing => {
+            search::search_and_steal(h, table, trees, locals, bits, q, 0, looks, tries)
+        }
+    }
+}
+
+// No name: the search, then steal from locals, then demote.
+fn get_any(
+    h: Header,
+    table: &[u32; 64],
+    trees: &mut [u32],
+    locals: &mut [u64],
+    bits: &mut [u64],
+    q: Request,
+    looks: usize,
+    tries: usize,
+) -> Routed
+    requires { ⌜ Fits h q × ((looks < 2 ^ 27) × (tries < 2 ^ 27)) ⌝ }
+    ensures { λ r. ⌜ (ended r (now (trees .exit)) (now (locals .exit)) (now (bits .exit))
+        ≡ getAny (config h (now (table .entry))) q (st (now (trees .entry)) (now (locals .entry)) (now (bits .entry)) looks tries))
+        × ((r .looks ≤ looks + 4096) × (r .tries ≤ tries + 8195)) ⌝ }
+{
+    let local = q.local;
+    let name = Name::Any;
+    let r = search_trees(h, table, trees, locals, bits, q, local, looks, tries);
+    let got = r.got;
+    match got {
+        Got::Done { frame: _, class: _ } => r,
+        Got::Missed => others::last_routes(
+            h,
+            table,
+            trees,
+            locals,
+            bits,
+            q,
+            name,
+            r.looks,
+            r.tries,
+        ),
+        Got::MissedAt(_) => {
+            others::last_routes(h, table, trees, locals, bits, q, name, r.looks, r.tries)
+        }
+        Got::Stuck => r,
+    }
+}
+
+// The routes of get, with no counts yet.
+pub fn routes(
+    h: Header,
+    table: &[u32; 64],
+    trees: &mut [u32],
+    locals: &mut [u64],
+    bits: &mut [u64],
+    q: Request,
+    name: Name,
+) -> Routed
+    requires { ⌜ Fits h q ⌝ }
+    ensures { λ r. ⌜ ended r (now (trees .exit)) (now (locals .exit)) (now (bits .exit))
+        ≡ routes (config h (now (table .entry))) q name (st (now (trees .entry)) (now (locals .entry)) (now (bits .entry)) 0 0) ⌝ }
+{
+    match name {
+        Name::Any => get_any(h, table, trees, locals, bits, q, 0, 0),
+        Name::Frame(f) => get_at(h, table, trees, locals, bits, q, f, 0, 0),
+    }
+}
