@@ -169,3 +169,23 @@ abbrev pub Sequence : Type 0
 Sequence = (h : Header) (pairs : List ℕ) (allFree : Bool) (s0 s e : Words) (r : Outcome) (xs : List Step)
     → StartPromise h pairs allFree s0 r s → outcomeOf r ≡ 0 → NoRestart xs → Chain h pairs xs s e
     → Demand3 11 (h .frames) allFree xs e
+
+-- ---- two more, over the same chains
+
+-- no call answers Stuck
+abbrev pub NoneStuck : List Step → Type 0
+NoneStuck [] = Unit {0}
+NoneStuck (x ∷ xs) = (number x ≡ 9 → ⊥) × NoneStuck xs
+
+-- no step of such a chain is Stuck
+abbrev pub NeverStuck : Type 0
+NeverStuck = (h : Header) (pairs : List ℕ) (allFree : Bool) (s0 s e : Words) (r : Outcome) (xs : List Step)
+    → StartPromise h pairs allFree s0 r s → outcomeOf r ≡ 0 → NoRestart xs → Chain h pairs xs s e
+    → NoneStuck xs
+
+-- a step after such a chain that is neither Done nor Memory leaves every word as it was
+abbrev pub RefusedKeeps : Type 0
+RefusedKeeps = (h : Header) (pairs : List ℕ) (allFree : Bool) (s0 s m e : Words) (r : Outcome) (xs : List Step) (x : Step)
+    → StartPromise h pairs allFree s0 r s → outcomeOf r ≡ 0 → NoRestart xs → Chain h pairs xs s m
+    → Promised h pairs x m e → (number x ≡ 0 → ⊥) → (number x ≡ 7 → ⊥)
+    → e ≡ m
