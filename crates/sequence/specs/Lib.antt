@@ -2,3 +2,4 @@
 pub mod Demand
 pub mod Blocks
 pub mod Steps
+pub mod Sequence

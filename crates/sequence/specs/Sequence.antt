@@ -1,0 +1,135 @@
+-- The theorems on chains of calls after an accepted start: demand 3, no call is Stuck, a refused call changes nothing. Assumes nothing.
+use mathlib.Core.Path.{_≡_, refl, sym, ap, _∙_, subst}
+use mathlib.Core.Bool.{Bool}
+use mathlib.Core.Logic.{_≢_}
+use mathlib.Core.List.{List, [], _∷_}
+use Prim.Native.Nat.{ℕ, _+_, _*_, _^_, _<_, _≤_}
+use native.Mathlib.Omega.{arith}
+use Rattle.rules.specs.Words.{Config, config, trees, entryAt}
+use Rattle.rules.specs.Lower.{clear}
+use Rattle.rules.specs.declared.Header.{Header}
+use Rattle.ways.specs.declared.Outcome.{Outcome}
+use Rattle.ways.specs.Calls.{outcomeOf, freeAtStart}
+use Rattle.ways.specs.Promises.{Words, StartPromise}
+use Rattle.lower_laws.specs.Clear.{clear-held}
+use Rattle.word_laws.specs.Sizes.{Size, size-eleven}
+use Rattle.hand.specs.Hand.{shares, Kept}
+use Rattle.sequence.specs.Demand.{Step, gets, puts, drains, counts, starts, Promised, Chain, number, NoRestart, handedOut, givenBack, heldAtStart, heldAfterGet, heldAfterPut, NoneTwice, NoneBroken, NoneStuck, reservation, freeIn, Demand3, Sequence, NeverStuck, RefusedKeeps}
+use Rattle.sequence.specs.Blocks.{reservation-is}
+use Rattle.sequence.specs.Steps.{Agreed, get-step, put-step, drain-step, count-step, refused-start, start-step}
+
+-- the whole chain, from words where the rules and the ledger agree
+pub record AllSteps (z : ℕ) (c : Config) (held : ℕ → Bool) (s : Words) (xs : List Step) (e : Words) : Type 0 where
+  pub kept : (h : ℕ → Bool) × Agreed c h e
+  pub tally : (t : ℕ) → clear z (e .bits) t + handedOut z t xs ≡ clear z (s .bits) t + givenBack z t xs
+  pub once : NoneTwice held xs
+  pub unbroken : NoneBroken xs
+  pub unstuck : NoneStuck xs
+
+module _ (h : Header) (pairs : List ℕ) where
+  all-steps : (held : ℕ → Bool) (s : Words) (xs : List Step) (e : Words) → Agreed (config h pairs) held s → NoRestart xs → Chain h pairs xs s e → AllSteps 11 (config h pairs) held s xs e
+  unfolding handedOut givenBack number
+  all-steps held s [] e A n C =
+      record { kept = (held, subst (Agreed (config h pairs) held) (sym C) A); tally = λ t. ap (λ (x : Words). clear 11 (x .bits) t + 0) C; once = tt; unbroken = tt; unstuck = tt }
+  all-steps held s (gets name q r ∷ xs) e A n (m, (P, C)) =
+      let G = get-step (config h pairs) size-eleven held s A q name (r .granted) m (r .looks) (r .tries) P in
+      let R = all-steps (heldAfterGet held (q .order) (r .granted)) m xs e (G .after) n C in
+      record {
+        kept = R .kept;
+        tally = λ t. omega (arith, R .tally t, G .counts t);
+        once = (G .once, R .once);
+        unbroken = (G .sound, R .unbroken);
+        unstuck = (G .loose, R .unstuck);
+      }
+  all-steps held s (puts f q r ∷ xs) e A n (m, (P, C)) =
+      let G = put-step (config h pairs) size-eleven held s A q f r m P in
+      let R = all-steps (heldAfterPut held (q .order) f r) m xs e (G .after) n C in
+      record {
+        kept = R .kept;
+        tally = λ t. omega (arith, R .tally t, G .counts t);
+        once = (G .once, R .once);
+        unbroken = (G .sound, R .unbroken);
+        unstuck = (G .loose, R .unstuck);
+      }
+  all-steps held s (drains r ∷ xs) e A n (m, (P, C)) =
+      let G = drain-step (config h pairs) size-eleven held s A r m P in
+      let R = all-steps held m xs e (G .after) n C in
+      record {
+        kept = R .kept;
+        tally = λ t. omega (arith, R .tally t, G .counts t);
+        once = R .once;
+        unbroken = (λ z. omega (arith, z, G .done), R .unbroken);
+        unstuck = (λ z. omega (arith, z, G .done), R .unstuck);
+      }
+  all-steps held s (counts rows r filled ∷ xs) e A n (m, (P, C)) =
+      let G = count-step (config h pairs) size-eleven held s A rows r filled (P .0) in
+      let R = all-steps held m xs e (subst (Agreed (config h pairs) held) (sym (P .1)) A) n C in
+      record {
+        kept = R .kept;
+        tally = λ t. R .tally t ∙ ap (λ (x : Words). clear 11 (x .bits) t + givenBack 11 t xs) (P .1);
+        once = R .once;
+        unbroken = (G .0, R .unbroken);
+        unstuck = (G .1, R .unstuck);
+      }
+  all-steps held s (starts d table allFree r ∷ xs) e A n (m, (P, C)) =
+      let G = refused-start (config d table) allFree s r m P (n .0) in
+      let R = all-steps held m xs e (subst (Agreed (config h pairs) held) (sym (G .1)) A) (n .1) C in
+      record {
+        kept = R .kept;
+        tally = λ t. R .tally t ∙ ap (λ (x : Words). clear 11 (x .bits) t + givenBack 11 t xs) (G .1);
+        once = R .once;
+        unbroken = (λ z. omega (arith, z, G .0), R .unbroken);
+        unstuck = (λ z. omega (arith, z, G .0), R .unstuck);
+      }
+
+  -- after an accepted start
+  module _ (allFree : Bool) (s0 s : Words) (r : Outcome) (P : StartPromise h pairs allFree s0 r s) (z : outcomeOf r ≡ 0) where
+    from-start : (xs : List Step) (e : Words) → NoRestart xs → Chain h pairs xs s e → AllSteps 11 (config h pairs) (heldAtStart allFree (h .frames)) s xs e
+    from-start xs e n C = all-steps (heldAtStart allFree (h .frames)) s xs e (start-step (config h pairs) size-eleven allFree s0 r s P z .begins) n C
+
+    demanded : (xs : List Step) (e : Words) → NoRestart xs → Chain h pairs xs s e → Demand3 11 (h .frames) allFree xs e
+    demanded xs e n C =
+        let R = from-start xs e n C in
+        let K : Kept (config h pairs) (e .trees) (e .locals) (e .bits) = R .kept .1 .kept in
+        record {
+          conserved = λ t lt.
+              omega (
+                arith,
+                K .sum t lt,
+                reservation-is 11 (e .locals) t,
+                clear-held 11 (e .bits) t (size-eleven .least),
+                R .tally t,
+                start-step (config h pairs) size-eleven allFree s0 r s P z .counts t lt,
+              );
+          once = R .once;
+          unbroken = R .unbroken;
+        }
+
+    -- a step after the chain that is neither Done nor Memory
+    step-same : (xs : List Step) (m e : Words) (x : Step) → NoRestart xs → Chain h pairs xs s m → Promised h pairs x m e → number x ≢ 0 → number x ≢ 7 → e ≡ m
+    unfolding number
+    step-same xs m e (gets name q w) n C Q no′ ne =
+        let A = from-start xs m n C .kept in
+        get-step (config h pairs) size-eleven (A .0) m (A .1) q name (w .granted) e (w .looks) (w .tries) Q .same no′ ne
+    step-same xs m e (puts f q w) n C Q no′ ne =
+        let A = from-start xs m n C .kept in
+        put-step (config h pairs) size-eleven (A .0) m (A .1) q f w e Q .same no′
+    step-same xs m e (drains w) n C Q no′ ne =
+        let A = from-start xs m n C .kept in
+        absurd (no′ (drain-step (config h pairs) size-eleven (A .0) m (A .1) w e Q .done))
+    step-same xs m e (counts rows w filled) n C Q no′ ne = Q .1
+    step-same xs m e (starts d table all w) n C Q no′ ne = refused-start (config d table) all m w e Q no′ .1
+
+-- ---- the theorems
+
+-- demand 3
+pub sequence : Sequence
+sequence h pairs allFree s0 s e r xs P z n C = demanded h pairs allFree s0 s r P z xs e n C
+
+-- no call answers Stuck
+pub never-stuck : NeverStuck
+never-stuck h pairs allFree s0 s e r xs P z n C = from-start h pairs allFree s0 s r P z xs e n C .unstuck
+
+-- a call that is neither Done nor Memory leaves every word as it was
+pub refused-keeps : RefusedKeeps
+refused-keeps h pairs allFree s0 s m e r xs x P z n C Q no′ ne = step-same h pairs allFree s0 s r P z xs m e x n C Q no′ ne
