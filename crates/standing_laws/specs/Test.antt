@@ -17,7 +17,6 @@ use Rattle.ways.specs.Standing.{treeOn, lengthsExact, entryStands, holderStands
 use Rattle.policy_laws.specs.All.{by, true-false, both-left, both-right, both-true, all-at, all-make}
 use Rattle.policy_laws.specs.Kinds.{good-fact, good-true}
 
-
 -- of an entry
 pub record EntryPart (c : Config) (ts bs : List ℕ) (t : ℕ) : Type 0 where
   pub free : entryAt ts t .free ≤ treeFrames (c .order)
