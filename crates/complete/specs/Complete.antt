@@ -19,8 +19,8 @@ use Rattle.ways.specs.declared.Reply.{Reply}
 use Rattle.ways.specs.declared.Tally.{Tally}
 use Rattle.ways.specs.declared.Totals.{Totals}
 use Rattle.ways.specs.State.{State, st}
-use Rattle.ways.specs.Calls.{Told, numberOf, outcomeOf, tellGet, told, toldGet}
-use Rattle.ways.specs.Statistics.{Report, toldTotals}
+use Rattle.ways.specs.Calls.{Told, numberOf, outcomeOf, tellGet, told}
+use Rattle.ways.specs.Statistics.{Report}
 use Rattle.ways.specs.Promises.{Words, words, StartPromise, GetPromise, PutPromise, DrainPromise, StatisticsPromise}
 
 -- ---- a number tells the refusal

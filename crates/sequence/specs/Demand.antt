@@ -4,7 +4,7 @@ use mathlib.Core.Bool.{Bool, true, false, not}
 use mathlib.Core.List.{List, [], _∷_}
 use Prim.Native.Nat.{ℕ, _+_, _-_, _*_, _/_, _^_, _<_}
 use lib.Dec.{eqb, leb, ltb}
-use lib.ListN.{getD, length}
+use lib.ListN.{length}
 use Rattle.rules.specs.Base.{pick, both, either, sum}
 use Rattle.rules.specs.Words.{treeFrames, treeCount, entryAt, localAt}
 use Rattle.rules.specs.declared.Header.{Header}

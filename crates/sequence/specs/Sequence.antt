@@ -1,20 +1,20 @@
 -- The theorems on chains of calls after an accepted start: demand 3, no call is Stuck, a refused call changes nothing. Assumes nothing.
-use mathlib.Core.Path.{_≡_, refl, sym, ap, _∙_, subst}
+use mathlib.Core.Path.{_≡_, sym, ap, _∙_, subst}
 use mathlib.Core.Bool.{Bool}
 use mathlib.Core.Logic.{_≢_}
 use mathlib.Core.List.{List, [], _∷_}
-use Prim.Native.Nat.{ℕ, _+_, _*_, _^_, _<_, _≤_}
+use Prim.Native.Nat.{ℕ, _+_}
 use native.Mathlib.Omega.{arith}
-use Rattle.rules.specs.Words.{Config, config, trees, entryAt}
+use Rattle.rules.specs.Words.{Config, config, trees}
 use Rattle.rules.specs.Lower.{clear}
 use Rattle.rules.specs.declared.Header.{Header}
 use Rattle.ways.specs.declared.Outcome.{Outcome}
-use Rattle.ways.specs.Calls.{outcomeOf, freeAtStart}
+use Rattle.ways.specs.Calls.{outcomeOf}
 use Rattle.ways.specs.Promises.{Words, StartPromise}
 use Rattle.lower_laws.specs.Clear.{clear-held}
-use Rattle.word_laws.specs.Sizes.{Size, size-eleven}
-use Rattle.hand.specs.Hand.{shares, Kept}
-use Rattle.sequence.specs.Demand.{Step, gets, puts, drains, counts, starts, Promised, Chain, number, NoRestart, handedOut, givenBack, heldAtStart, heldAfterGet, heldAfterPut, NoneTwice, NoneBroken, NoneStuck, reservation, freeIn, Demand3, Sequence, NeverStuck, RefusedKeeps}
+use Rattle.word_laws.specs.Sizes.{size-eleven}
+use Rattle.hand.specs.Hand.{Kept}
+use Rattle.sequence.specs.Demand.{Step, gets, puts, drains, counts, starts, Promised, Chain, number, NoRestart, handedOut, givenBack, heldAtStart, heldAfterGet, heldAfterPut, NoneTwice, NoneBroken, NoneStuck, Demand3, Sequence, NeverStuck, RefusedKeeps}
 use Rattle.sequence.specs.Blocks.{reservation-is}
 use Rattle.sequence.specs.Steps.{Agreed, get-step, put-step, drain-step, count-step, refused-start, start-step}
 

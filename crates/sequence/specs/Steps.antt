@@ -3,13 +3,13 @@ use mathlib.Core.Path.{_≡_, refl, sym, ap, _∙_, subst}
 use mathlib.Core.Bool.{Bool, true, false, not}
 use mathlib.Core.Logic.{_≢_, _⊎_, inl, inr, ⊎-elim}
 use mathlib.Core.List.{List}
-use Prim.Native.Nat.{ℕ, zero, suc, _+_, _-_, _*_, _/_, _^_, _<_, _≤_}
+use Prim.Native.Nat.{ℕ, zero, suc, _+_, _*_, _^_, _<_, _≤_}
 use native.Mathlib.Omega.{arith}
 use lib.Dec.{eqb, leb}
-use lib.ListN.{length, getD}
-use borrow.Author.Tests.{leb-true, leb-false, le-leb, lt-leb}
+use lib.ListN.{length}
+use borrow.Author.Tests.{leb-true, leb-false}
 use Rattle.rules.specs.Base.{both, either, bitOf}
-use Rattle.rules.specs.Words.{Config, treeFrames, treeRows, trees, localOf, entryAt, localAt}
+use Rattle.rules.specs.Words.{Config, trees, localOf, entryAt}
 use Rattle.rules.specs.Policy.{accepted}
 use Rattle.rules.specs.Lower.{bit, clear, mark}
 use Rattle.rules.specs.declared.Name.{Name}
@@ -23,19 +23,19 @@ use Rattle.ways.specs.declared.Refusal.{Refusal}
 use Rattle.ways.specs.declared.Refusal.the-variants as Refusal
 use Rattle.ways.specs.declared.Tally.{Tally}
 use Rattle.ways.specs.declared.Totals.{Totals}
-use Rattle.ways.specs.State.{State, st}
+use Rattle.ways.specs.State.{st}
 use Rattle.ways.specs.Standing.{standing, lengthsExact}
-use Rattle.ways.specs.Calls.{Told, telling, fresh, numberOf, outcomeOf, tellGet, told, refusal, frameOf, get, put, drain, freeAtStart, atMost, freshState, start}
+use Rattle.ways.specs.Calls.{Told, telling, fresh, numberOf, outcomeOf, tellGet, told, refusal, frameOf, get, put, drain, freeAtStart, freshState, start}
 use Rattle.ways.specs.Statistics.{Report, toldTotals, statistics}
 use Rattle.ways.specs.Promises.{Words, words}
 use Rattle.lower_laws.specs.Clear.{clear-held}
 use Rattle.policy_laws.specs.All.{by, true-false, both-left}
 use Rattle.word_laws.specs.Sizes.{Size, count-frames, count-bits}
 use Rattle.word_laws.specs.Words.{absent-word, bit-true, bit-false}
-use Rattle.hand.specs.Hand.{shares, Kept}
+use Rattle.hand.specs.Hand.{Kept}
 use Rattle.step_laws.specs.Steps.{ifte-ind}
 use Rattle.keeps.specs.Fine as Fine
-use Rattle.keeps_calls.specs.Asked.{Accepted, accepts}
+use Rattle.keeps_calls.specs.Asked.{accepts}
 use Rattle.keeps_calls.specs.Fresh.{fresh-entry}
 use Rattle.keeps_calls.specs.Calls.{GetAny, PutAny, DrainKeeps, StartKeeps, Returned, get-any, get-keeps, get-refused, put-any, put-refused, drain-keeps, start-keeps, start-done, start-refused}
 use Rattle.standing_laws.specs.Holders.{on-none}

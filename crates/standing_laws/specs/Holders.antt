@@ -1,6 +1,6 @@
 -- The locals that hold a tree, counted: one, none, all trees together. Assumes nothing.
 use mathlib.Core.Path.{_≡_, refl, sym, ap, _∙_}
-use mathlib.Core.Bool.{Bool, true, false}
+use mathlib.Core.Bool.{true}
 use mathlib.Core.Logic.{_≢_, _⊎_, inl, inr, ⊎-elim}
 use mathlib.Core.List.{List}
 use Prim.Native.Nat.{ℕ, zero, suc, _+_, _<_, _≤_}
@@ -13,10 +13,10 @@ use Rattle.rules.specs.Words.{localAt}
 use Rattle.rules.specs.declared.Local.{Local}
 use Rattle.ways.specs.Standing.{treeOn, presentCount}
 use Rattle.lower_laws.specs.Sum.{sum-zero, sum-ext, zero-at}
-use Rattle.policy_laws.specs.All.{true-false, by}
+use Rattle.policy_laws.specs.All.{by}
 use Rattle.word_laws.specs.Sums.{sum-ge, sum-change, sum-swap}
 use Rattle.word_laws.specs.Words.{present-lt}
-use Rattle.hand.specs.Hand.{here, share, holds, shares, holders}
+use Rattle.hand.specs.Hand.{share, holds, shares, holders}
 use Rattle.moves.specs.Here.{here-same, here-other, share-here, holds-here, share-none, holds-none}
 
 -- ---- sums

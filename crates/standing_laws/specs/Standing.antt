@@ -3,12 +3,12 @@ use mathlib.Core.Path.{_≡_, refl, sym, ap, _∙_, subst}
 use mathlib.Core.Bool.{Bool, true, false}
 use mathlib.Core.Logic.{⊎-elim}
 use mathlib.Core.List.{List}
-use Prim.Native.Nat.{ℕ, _+_, _-_, _*_, _/_, _^_, _<_, _≤_}
+use Prim.Native.Nat.{ℕ, _+_, _-_, _*_, _^_, _<_, _≤_}
 use native.Mathlib.Omega.{arith}
 use native.Mathlib.Decide.{decLt}
 use lib.ListN.{getD, length, List·getD-eq-default}
 use Rattle.rules.specs.Base.{both, bitOf, sum}
-use Rattle.rules.specs.Words.{Config, treeOf, treeFrames, trees, localCount, slot, entryAt, localAt}
+use Rattle.rules.specs.Words.{Config, treeOf, trees, localCount, slot, entryAt, localAt}
 use Rattle.rules.specs.Policy.{accepted, Good}
 use Rattle.rules.specs.Lower.{bit, held, clear}
 use Rattle.ways.specs.Standing.{treeOn, reservedCount, presentCount, lengthsExact, standing, Standing}
@@ -18,15 +18,14 @@ use Rattle.lower_laws.specs.Held.{bit-le}
 use Rattle.lower_laws.specs.Clear.{clear-held}
 use Rattle.policy_laws.specs.All.{by, true-false}
 use Rattle.policy_laws.specs.Kinds.{configured-fact, configured-true}
-use Rattle.word_laws.specs.Sizes.{Size, count-frames, count-bits}
+use Rattle.word_laws.specs.Sizes.{Size}
 use Rattle.word_laws.specs.Sums.{sum-tight}
 use Rattle.word_laws.specs.Words.{present-lt, bit-true}
-use Rattle.word_laws.specs.Slots.{Place, place-of, slot-lt}
-use Rattle.hand.specs.Hand.{shares, holders, nothing, Kept}
-use Rattle.moves.specs.Here.{on-holds}
+use Rattle.word_laws.specs.Slots.{place-of}
+use Rattle.hand.specs.Hand.{shares, holders, Kept}
 use Rattle.keeps_calls.specs.Calls.{start-keeps}
 use Rattle.standing_laws.specs.Holders.{holders-all, none-on, on-none, only-on, one-on, find-on}
-use Rattle.standing_laws.specs.Test.{EntryPart, HolderPart, Parts, test-parts, parts-test}
+use Rattle.standing_laws.specs.Test.{HolderPart, Parts, test-parts, parts-test}
 
 -- the lent tree words are words of 32 bits, so their class has three
 abbrev pub TreeWords : List ℕ → Type 0

@@ -1,20 +1,18 @@
 -- The test of the whole state and its parts: what a part that passes says, and what makes it pass. Assumes nothing.
-use mathlib.Core.Path.{_≡_, refl, sym, ap, _∙_}
+use mathlib.Core.Path.{_≡_, refl, sym, ap}
 use mathlib.Core.Bool.{Bool, true, false, not}
-use mathlib.Core.Logic.{⊎-elim}
 use mathlib.Core.List.{List}
-use Prim.Native.Nat.{ℕ, _+_, _-_, _*_, _^_, _<_, _≤_}
-use native.Mathlib.Omega.{arith}
+use Prim.Native.Nat.{ℕ, _+_, _-_, _*_, _<_, _≤_}
 use lib.Dec.{eqb, leb, ltb}
 use lib.ListN.{getD, length}
 use borrow.Author.Tests.{eqb-true, leb-true, ltb-true, eq-eqb, ne-eqb, le-leb, lt-ltb, eqb-false, not-true}
-use Rattle.rules.specs.Base.{pick, both, allBelow}
+use Rattle.rules.specs.Base.{pick, allBelow}
 use Rattle.rules.specs.Words.{Config, treeFrames, treeRows, trees, configured, localsOf, slot, localCount, entryAt, localAt}
 use Rattle.rules.specs.Policy.{accepted, good, Good}
 use Rattle.rules.specs.Lower.{held, clear}
 use Rattle.rules.specs.declared.Local.{Local}
 use Rattle.ways.specs.Standing.{treeOn, lengthsExact, entryStands, holderStands, localStands, classStands, apart, apartBefore, reservedCount, presentCount, pastHeld, standing}
-use Rattle.policy_laws.specs.All.{by, true-false, both-left, both-right, both-true, all-at, all-make}
+use Rattle.policy_laws.specs.All.{true-false, both-left, both-right, both-true, all-at, all-make}
 use Rattle.policy_laws.specs.Kinds.{good-fact, good-true}
 
 -- of an entry
