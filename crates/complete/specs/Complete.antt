@@ -55,7 +55,7 @@ same-refusal : (x y : Refusal) → numberOf x ≡ numberOf y → x ≡ y
 same-refusal x y e = sym (back x) ∙ ap refusalOf e ∙ back y
 
 -- no refusal is 0
-refused : {X : Type 0} (x : Refusal) → numberOf x ≡ 0 → X
+pub refused : {X : Type 0} (x : Refusal) → numberOf x ≡ 0 → X
 unfolding numberOf
 refused Refusal.Broken e = absurd (omega (arith, e))
 refused Refusal.Order e = absurd (omega (arith, e))
@@ -77,7 +77,7 @@ same-outcome (Outcome.Refused x) Outcome.Done e = refused x e
 same-outcome (Outcome.Refused x) (Outcome.Refused y) e = ap Outcome.Refused (same-refusal x y e)
 
 -- ---- what is told fixes the answer and the words
-same-words : (e d : Words) → e .trees ≡ d .trees → e .locals ≡ d .locals → e .bits ≡ d .bits → e ≡ d
+pub same-words : (e d : Words) → e .trees ≡ d .trees → e .locals ≡ d .locals → e .bits ≡ d .bits → e ≡ d
 same-words e d p q r =
     ap (λ (x : List ℕ). words x (e .locals) (e .bits)) p ∙ ap (λ (x : List ℕ). words (d .trees) x (e .bits)) q ∙ ap (λ (x : List ℕ). words (d .trees) (d .locals) x) r
 

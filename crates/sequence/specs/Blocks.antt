@@ -88,11 +88,11 @@ module _ (ws : List ℕ) (o j : ℕ) (b : Block ws o j) where
 
     in-this : (t : ℕ) → j * 2 ^ o / treeFrames z ≡ t → inTree z t o (j * 2 ^ o) ≡ 2 ^ o
     unfolding inTree
-    in-this t e = rw (eq-eqb (j * 2 ^ o / treeFrames z) t e)
+    in-this t e = ap (λ (y : Bool). pick y (2 ^ o) 0) (eq-eqb (j * 2 ^ o / treeFrames z) t e)
 
     in-other : (t : ℕ) → (j * 2 ^ o / treeFrames z ≡ t → ⊥) → inTree z t o (j * 2 ^ o) ≡ 0
     unfolding inTree
-    in-other t e = rw (ne-eqb (j * 2 ^ o / treeFrames z) t e)
+    in-other t e = ap (λ (y : Bool). pick y (2 ^ o) 0) (ne-eqb (j * 2 ^ o / treeFrames z) t e)
 
     pub take-counts : heldIn ws o j ≡ 0 → (t : ℕ) → clear z (mark true ws o j) t + inTree z t o (j * 2 ^ o) ≡ clear z ws t
     take-counts e t = go (ℕ-discrete (j * 2 ^ o / treeFrames z) t)

@@ -19,13 +19,11 @@ use Rattle.ways.specs.declared.Outcome.{Outcome}
 use Rattle.ways.specs.declared.Outcome.the-variants as Outcome
 use Rattle.ways.specs.declared.Granted.{Granted}
 use Rattle.ways.specs.declared.Granted.the-variants as Granted
-use Rattle.ways.specs.declared.Refusal.{Refusal}
-use Rattle.ways.specs.declared.Refusal.the-variants as Refusal
 use Rattle.ways.specs.declared.Tally.{Tally}
 use Rattle.ways.specs.declared.Totals.{Totals}
 use Rattle.ways.specs.State.{st}
 use Rattle.ways.specs.Standing.{standing, lengthsExact}
-use Rattle.ways.specs.Calls.{Told, telling, fresh, numberOf, outcomeOf, tellGet, told, refusal, frameOf, get, put, drain, freeAtStart, freshState, start}
+use Rattle.ways.specs.Calls.{Told, telling, fresh, outcomeOf, tellGet, told, refusal, frameOf, get, put, drain, freeAtStart, freshState, start}
 use Rattle.ways.specs.Statistics.{Report, toldTotals, statistics}
 use Rattle.ways.specs.Promises.{Words, words}
 use Rattle.lower_laws.specs.Clear.{clear-held}
@@ -38,6 +36,7 @@ use Rattle.keeps.specs.Fine as Fine
 use Rattle.keeps_calls.specs.Asked.{accepts}
 use Rattle.keeps_calls.specs.Fresh.{fresh-entry}
 use Rattle.keeps_calls.specs.Calls.{GetAny, PutAny, DrainKeeps, StartKeeps, Returned, get-any, get-keeps, get-refused, put-any, put-refused, drain-keeps, start-keeps, start-done, start-refused}
+use Rattle.complete.specs.Complete.{same-words, refused}
 use Rattle.standing_laws.specs.Holders.{on-none}
 use Rattle.standing_laws.specs.Standing.{kept-test}
 use Rattle.sequence.specs.Demand.{numberGot, inTree, inBlock, handed, given, heldAtStart, heldAfterGet, heldAfterPut, NotYetHeld, AllHeld, freeIn}
@@ -48,29 +47,9 @@ pub record Agreed (c : Config) (held : ℕ → Bool) (s : Words) : Type 0 where
   pub kept : Kept c (s .trees) (s .locals) (s .bits)
   pub agree : (x : ℕ) → x < c .frames → bitOf (held x) ≡ bit (s .bits) x
 
--- three lists that are equal make equal words
-pub same-words : (e m : Words) → e .trees ≡ m .trees → e .locals ≡ m .locals → e .bits ≡ m .bits → e ≡ m
-same-words e m p q r =
-    ap (λ (x : List ℕ). words x (e .locals) (e .bits)) p ∙ ap (λ (x : List ℕ). words (m .trees) x (e .bits)) q ∙ ap (λ (x : List ℕ). words (m .trees) (m .locals) x) r
-
 -- what a call tells with the words as they were
 same-told : (r : Told) (n : ℕ) (e s : Words) → r .trees ≡ e .trees → r .locals ≡ e .locals → r .bits ≡ e .bits → r ≡ telling n 0 0 (fresh (s .trees) (s .locals) (s .bits)) → e ≡ s
 same-told r n e s p q d t = same-words e s (sym p ∙ ap (λ (x : Told). x .trees) t) (sym q ∙ ap (λ (x : Told). x .locals) t) (sym d ∙ ap (λ (x : Told). x .bits) t)
-
--- a refusal is not Done
-refused-not : (w : Refusal) → numberOf w ≢ 0
-unfolding numberOf
-refused-not Refusal.Broken e = omega (arith, e)
-refused-not Refusal.Order e = omega (arith, e)
-refused-not Refusal.Bounds e = omega (arith, e)
-refused-not Refusal.Misaligned e = omega (arith, e)
-refused-not Refusal.Class e = omega (arith, e)
-refused-not Refusal.Local e = omega (arith, e)
-refused-not Refusal.Memory e = omega (arith, e)
-refused-not Refusal.NotHeld e = omega (arith, e)
-refused-not Refusal.Stuck e = omega (arith, e)
-refused-not Refusal.Config e = omega (arith, e)
-refused-not Refusal.Rows e = omega (arith, e)
 
 module _ (c : Config) (sz : Size (c .order)) (held : ℕ → Bool) (s : Words) (A : Agreed c held s) where
   passes : standing c (s .trees) (s .locals) (s .bits) ≡ true
@@ -135,7 +114,7 @@ module _ (c : Config) (sz : Size (c .order)) (held : ℕ → Bool) (s : Words) (
   get-step q name (Granted.Refused w) m i k P =
       let G : GetAny c q name (s .bits) (tellGet (Granted.Refused w) (st (m .trees) (m .locals) (m .bits) i k)) =
       subst (GetAny c q name (s .bits)) (sym P) (get-any c (s .trees) (s .locals) (s .bits) sz passes (A .kept) q name) in
-      let e : m .bits ≡ s .bits = G .unchanged (refused-not w) in
+      let e : m .bits ≡ s .bits = G .unchanged (refused w) in
       record {
         after = record { kept = G .kept; agree = λ x lt. A .agree x lt ∙ sym (ap (λ (y : List ℕ). bit y x) e) };
         counts = λ t. (let d : clear (c .order) (m .bits) t ≡ clear (c .order) (s .bits) t = ap (λ (y : List ℕ). clear (c .order) y t) e in omega arith);
@@ -190,7 +169,7 @@ module _ (c : Config) (sz : Size (c .order)) (held : ℕ → Bool) (s : Words) (
   put-step q f (Outcome.Refused w) m P =
       let G : PutAny c q f (s .trees) (s .locals) (s .bits) (told (Outcome.Refused w) (m .trees) (m .locals) (m .bits)) =
       subst (PutAny c q f (s .trees) (s .locals) (s .bits)) (sym P) (put-any c (s .trees) (s .locals) (s .bits) sz passes (A .kept) q f) in
-      let u = G .unchanged (refused-not w) in
+      let u = G .unchanged (refused w) in
       let e : m .bits ≡ s .bits = u .1 .1 in
       record {
         after = record { kept = G .kept; agree = λ x lt. A .agree x lt ∙ sym (ap (λ (y : List ℕ). bit y x) e) };
