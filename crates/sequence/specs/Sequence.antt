@@ -1,21 +1,25 @@
--- The theorems on chains of calls after an accepted start: demand 3, no call is Stuck, a refused call changes nothing. Assumes nothing.
-use mathlib.Core.Path.{_≡_, sym, ap, _∙_, subst}
+-- The theorems on chains of calls: demand 3, no call is Stuck, a refused call changes nothing. Assumes nothing.
+use mathlib.Core.Path.{_≡_, refl, sym, ap, _∙_, subst}
 use mathlib.Core.Bool.{Bool}
-use mathlib.Core.Logic.{_≢_}
 use mathlib.Core.List.{List, [], _∷_}
-use Prim.Native.Nat.{ℕ, _+_}
+use Prim.Native.Nat.{ℕ, zero, suc, _+_, _≤_}
 use native.Mathlib.Omega.{arith}
+use lib.Dec.{eqb}
+use Rattle.rules.specs.Base.{bitOf}
 use Rattle.rules.specs.Words.{Config, config, trees}
-use Rattle.rules.specs.Lower.{clear}
+use Rattle.rules.specs.Lower.{bit, clear}
 use Rattle.rules.specs.declared.Header.{Header}
 use Rattle.ways.specs.declared.Outcome.{Outcome}
 use Rattle.ways.specs.Calls.{outcomeOf}
 use Rattle.ways.specs.Promises.{Words, StartPromise}
+use Rattle.lower_laws.specs.Held.{bit-le}
 use Rattle.lower_laws.specs.Clear.{clear-held}
 use Rattle.word_laws.specs.Sizes.{size-eleven}
 use Rattle.hand.specs.Hand.{Kept}
-use Rattle.sequence.specs.Demand.{Step, gets, puts, drains, counts, starts, Promised, Chain, number, NoRestart, handedOut, givenBack, heldAtStart, heldAfterGet, heldAfterPut, NoneTwice, NoneBroken, NoneStuck, Demand3, Sequence, NeverStuck, RefusedKeeps}
+use Rattle.standing_laws.specs.Standing.{kept-test, test-kept}
+use Rattle.sequence.specs.Demand.{Step, gets, puts, drains, counts, starts, Chain, number, NoRestart, handedOut, givenBack, heldAtStart, heldAfterGet, heldAfterPut, NoneTwice, NoneBroken, NoneStuck, Demand3, Sequence, NeverStuck, FromStanding, OthersUnchanged}
 use Rattle.sequence.specs.Blocks.{reservation-is}
+use Rattle.sequence.specs.Refused.{step-left}
 use Rattle.sequence.specs.Steps.{Agreed, get-step, put-step, drain-step, count-step, refused-start, start-step}
 
 -- the whole chain, from words where the rules and the ledger agree
@@ -73,13 +77,14 @@ module _ (h : Header) (pairs : List ℕ) where
       }
   all-steps held s (starts d table allFree r ∷ xs) e A n (m, (P, C)) =
       let G = refused-start (config d table) allFree s r m P (n .0) in
-      let R = all-steps held m xs e (subst (Agreed (config h pairs) held) (sym (G .1)) A) (n .1) C in
+      let same : m ≡ s = step-left h pairs (starts d table allFree r) s m P (n .0) (λ z. omega (arith, z, G)) (λ z. omega (arith, z, G)) in
+      let R = all-steps held m xs e (subst (Agreed (config h pairs) held) (sym same) A) (n .1) C in
       record {
         kept = R .kept;
-        tally = λ t. R .tally t ∙ ap (λ (x : Words). clear 11 (x .bits) t + givenBack 11 t xs) (G .1);
+        tally = λ t. R .tally t ∙ ap (λ (x : Words). clear 11 (x .bits) t + givenBack 11 t xs) same;
         once = R .once;
-        unbroken = (λ z. omega (arith, z, G .0), R .unbroken);
-        unstuck = (λ z. omega (arith, z, G .0), R .unstuck);
+        unbroken = (λ z. omega (arith, z, G), R .unbroken);
+        unstuck = (λ z. omega (arith, z, G), R .unstuck);
       }
 
   -- after an accepted start
@@ -105,20 +110,11 @@ module _ (h : Header) (pairs : List ℕ) where
           unbroken = R .unbroken;
         }
 
-    -- a step after the chain that is neither Done nor Memory
-    step-same : (xs : List Step) (m e : Words) (x : Step) → NoRestart xs → Chain h pairs xs s m → Promised h pairs x m e → number x ≢ 0 → number x ≢ 7 → e ≡ m
-    unfolding number
-    step-same xs m e (gets name q w) n C Q no′ ne =
-        let A = from-start xs m n C .kept in
-        get-step (config h pairs) size-eleven (A .0) m (A .1) q name (w .granted) e (w .looks) (w .tries) Q .same no′ ne
-    step-same xs m e (puts f q w) n C Q no′ ne =
-        let A = from-start xs m n C .kept in
-        put-step (config h pairs) size-eleven (A .0) m (A .1) q f w e Q .same no′
-    step-same xs m e (drains w) n C Q no′ ne =
-        let A = from-start xs m n C .kept in
-        absurd (no′ (drain-step (config h pairs) size-eleven (A .0) m (A .1) w e Q .done))
-    step-same xs m e (counts rows w filled) n C Q no′ ne = Q .1
-    step-same xs m e (starts d table all w) n C Q no′ ne = refused-start (config d table) all m w e Q no′ .1
+-- a bit that is 1 is held
+as-held : (n : ℕ) → n ≤ 1 → bitOf (eqb n 1) ≡ n
+as-held zero h = refl
+as-held (suc zero) h = refl
+as-held (suc (suc n)) h = absurd (omega arith)
 
 -- ---- the theorems
 
@@ -130,6 +126,13 @@ sequence h pairs allFree s0 s e r xs P z n C = demanded h pairs allFree s0 s r P
 pub never-stuck : NeverStuck
 never-stuck h pairs allFree s0 s e r xs P z n C = from-start h pairs allFree s0 s r P z xs e n C .unstuck
 
--- a call that is neither Done nor Memory leaves every word as it was
-pub refused-keeps : RefusedKeeps
-refused-keeps h pairs allFree s0 s m e r xs x P z n C Q no′ ne = step-same h pairs allFree s0 s r P z xs m e x n C Q no′ ne
+-- from words that pass the state test: never Broken, never Stuck, and the test passes after it
+pub from-standing : FromStanding
+from-standing h pairs s e xs S w n C =
+    let K : Kept (config h pairs) (s .trees) (s .locals) (s .bits) = test-kept (config h pairs) size-eleven (s .trees) (s .locals) (s .bits) w S in
+    let R = all-steps h pairs (λ x. eqb (bit (s .bits) x) 1) s xs e (record { kept = K; agree = λ x lt. as-held (bit (s .bits) x) (bit-le (s .bits) x) }) n C in
+    ((R .unbroken, R .unstuck), kept-test (config h pairs) size-eleven (e .trees) (e .locals) (e .bits) (R .kept .1 .kept))
+
+-- from any words: a call that is not Done, Memory or Stuck leaves them
+pub others-unchanged : OthersUnchanged
+others-unchanged = step-left

@@ -23,11 +23,11 @@ use Rattle.ways.specs.declared.Tally.{Tally}
 use Rattle.ways.specs.declared.Totals.{Totals}
 use Rattle.ways.specs.State.{st}
 use Rattle.ways.specs.Standing.{standing, lengthsExact}
-use Rattle.ways.specs.Calls.{Told, telling, fresh, outcomeOf, tellGet, told, refusal, frameOf, get, put, drain, freeAtStart, freshState, start}
+use Rattle.ways.specs.Calls.{Told, outcomeOf, tellGet, told, refusal, frameOf, get, put, drain, freeAtStart, freshState, start}
 use Rattle.ways.specs.Statistics.{Report, toldTotals, statistics}
 use Rattle.ways.specs.Promises.{Words, words}
 use Rattle.lower_laws.specs.Clear.{clear-held}
-use Rattle.policy_laws.specs.All.{by, true-false, both-left}
+use Rattle.policy_laws.specs.All.{true-false, both-left}
 use Rattle.word_laws.specs.Sizes.{Size, count-frames, count-bits}
 use Rattle.word_laws.specs.Words.{absent-word, bit-true, bit-false}
 use Rattle.hand.specs.Hand.{Kept}
@@ -35,8 +35,8 @@ use Rattle.step_laws.specs.Steps.{ifte-ind}
 use Rattle.keeps.specs.Fine as Fine
 use Rattle.keeps_calls.specs.Asked.{accepts}
 use Rattle.keeps_calls.specs.Fresh.{fresh-entry}
-use Rattle.keeps_calls.specs.Calls.{GetAny, PutAny, DrainKeeps, StartKeeps, Returned, get-any, get-keeps, get-refused, put-any, put-refused, drain-keeps, start-keeps, start-done, start-refused}
-use Rattle.complete.specs.Complete.{same-words, refused}
+use Rattle.keeps_calls.specs.Calls.{GetAny, PutAny, DrainKeeps, StartKeeps, Returned, get-any, get-refused, put-any, put-refused, drain-keeps, start-keeps, start-done}
+use Rattle.complete.specs.Complete.{refused}
 use Rattle.standing_laws.specs.Holders.{on-none}
 use Rattle.standing_laws.specs.Standing.{kept-test}
 use Rattle.sequence.specs.Demand.{numberGot, inTree, inBlock, handed, given, heldAtStart, heldAfterGet, heldAfterPut, NotYetHeld, AllHeld, freeIn}
@@ -46,10 +46,6 @@ use Rattle.sequence.specs.Blocks.{free-frame, held-frame, take-agrees, g
 pub record Agreed (c : Config) (held : ℕ → Bool) (s : Words) : Type 0 where
   pub kept : Kept c (s .trees) (s .locals) (s .bits)
   pub agree : (x : ℕ) → x < c .frames → bitOf (held x) ≡ bit (s .bits) x
-
--- what a call tells with the words as they were
-same-told : (r : Told) (n : ℕ) (e s : Words) → r .trees ≡ e .trees → r .locals ≡ e .locals → r .bits ≡ e .bits → r ≡ telling n 0 0 (fresh (s .trees) (s .locals) (s .bits)) → e ≡ s
-same-told r n e s p q d t = same-words e s (sym p ∙ ap (λ (x : Told). x .trees) t) (sym q ∙ ap (λ (x : Told). x .locals) t) (sym d ∙ ap (λ (x : Told). x .bits) t)
 
 module _ (c : Config) (sz : Size (c .order)) (held : ℕ → Bool) (s : Words) (A : Agreed c held s) where
   passes : standing c (s .trees) (s .locals) (s .bits) ≡ true
@@ -62,7 +58,6 @@ module _ (c : Config) (sz : Size (c .order)) (held : ℕ → Bool) (s : Words) (
     pub once : NotYetHeld held (q .order) g
     pub sound : numberGot g ≢ 1
     pub loose : numberGot g ≢ 9
-    pub same : numberGot g ≢ 0 → numberGot g ≢ 7 → m ≡ s
 
   -- a get that is Done was of an order that there is
   get-order : (q : Request) (name : Name) → get c q name (s .trees) (s .locals) (s .bits) .number ≡ 0 → q .order ≤ c .order
@@ -71,17 +66,6 @@ module _ (c : Config) (sz : Size (c .order)) (held : ℕ → Bool) (s : Words) (
       go : (n : ℕ) → refusal c q (frameOf name) ≡ n → q .order ≤ c .order
       go zero d = accepts c q (frameOf name) d .order
       go (suc n) d = absurd (omega (arith, e, ap (λ (x : Told). x .number) (get-refused c (s .trees) (s .locals) (s .bits) q name n passes d)))
-
-  -- one that is neither Done nor Memory changed nothing
-  get-same : (q : Request) (name : Name) (m : Words) (r : Told) → r .trees ≡ m .trees → r .locals ≡ m .locals → r .bits ≡ m .bits
-      → r ≡ get c q name (s .trees) (s .locals) (s .bits) → r .number ≢ 0 → r .number ≢ 7 → m ≡ s
-  get-same q name m r a b d p no′ ne = go (refusal c q (frameOf name)) refl
-    where
-      go : (n : ℕ) → refusal c q (frameOf name) ≡ n → m ≡ s
-      go zero z =
-          ⊎-elim (λ y. absurd (no′ (ap (λ (x : Told). x .number) p ∙ y))) (λ y. absurd (ne (ap (λ (x : Told). x .number) p ∙ y)))
-          (get-keeps c (s .trees) (s .locals) (s .bits) sz passes (A .kept) q name z .number)
-      go (suc n) z = same-told r (suc n) m s a b d (p ∙ get-refused c (s .trees) (s .locals) (s .bits) q name n passes z)
 
   pub get-step : (q : Request) (name : Name) (g : Granted) (m : Words) (i k : ℕ)
       → tellGet g (st (m .trees) (m .locals) (m .bits) i k) ≡ get c q name (s .trees) (s .locals) (s .bits) → GetStep q g m
@@ -109,7 +93,6 @@ module _ (c : Config) (sz : Size (c .order)) (held : ℕ → Bool) (s : Words) (
             bit-false (held x) (A .agree x (omega (arith, v .1, D .below)) ∙ free-frame (s .bits) (q .order) (D .block) (D .inside) (D .free) x n′);
         sound = λ z. omega (arith, z);
         loose = λ z. omega (arith, z);
-        same = λ no′ ne. absurd (no′ refl);
       }
   get-step q name (Granted.Refused w) m i k P =
       let G : GetAny c q name (s .bits) (tellGet (Granted.Refused w) (st (m .trees) (m .locals) (m .bits) i k)) =
@@ -121,7 +104,6 @@ module _ (c : Config) (sz : Size (c .order)) (held : ℕ → Bool) (s : Words) (
         once = tt;
         sound = G .sound;
         loose = G .loose;
-        same = get-same q name m (tellGet (Granted.Refused w) (st (m .trees) (m .locals) (m .bits) i k)) refl refl refl P;
       }
 
   -- ---- put
@@ -131,7 +113,6 @@ module _ (c : Config) (sz : Size (c .order)) (held : ℕ → Bool) (s : Words) (
     pub once : AllHeld held (q .order) f r
     pub sound : outcomeOf r ≢ 1
     pub loose : outcomeOf r ≢ 9
-    pub same : outcomeOf r ≢ 0 → m ≡ s
 
   put-order : (q : Request) (f : ℕ) → put c q f (s .trees) (s .locals) (s .bits) .number ≡ 0 → q .order ≤ c .order
   put-order q f e = go (refusal c q f) refl
@@ -164,7 +145,6 @@ module _ (c : Config) (sz : Size (c .order)) (held : ℕ → Bool) (s : Words) (
             bit-true (held x) (A .agree x (omega (arith, v .1, D .below)) ∙ held-frame (s .bits) (q .order) (D .block) (D .inside) (D .held) x n′);
         sound = λ z. omega (arith, z);
         loose = λ z. omega (arith, z);
-        same = λ no′. absurd (no′ refl);
       }
   put-step q f (Outcome.Refused w) m P =
       let G : PutAny c q f (s .trees) (s .locals) (s .bits) (told (Outcome.Refused w) (m .trees) (m .locals) (m .bits)) =
@@ -177,7 +157,6 @@ module _ (c : Config) (sz : Size (c .order)) (held : ℕ → Bool) (s : Words) (
         once = tt;
         sound = G .sound;
         loose = G .loose;
-        same = λ _. same-words m s (u .0) (u .1 .0) (u .1 .1);
       }
 
   -- ---- drain: always Done
@@ -210,19 +189,16 @@ module _ (c : Config) (sz : Size (c .order)) (held : ℕ → Bool) (s : Words) (
       let n : outcomeOf (r .outcome) ≡ statistics c (s .trees) (s .locals) (s .bits) rows .number = ap (λ (x : Report). x .number) P in
       (λ z. ⊎-elim (λ y. omega (arith, n, y, z)) (λ y. omega (arith, n, y, z)) (counted rows), λ z. ⊎-elim (λ y. omega (arith, n, y, z)) (λ y. omega (arith, n, y, z)) (counted rows))
 
--- ---- a refused start: Config, and nothing changes
-start-is-done : (d : Config) (allFree : Bool) (s : Words) → both (accepted d) (lengthsExact d (s .trees) (s .locals) (s .bits)) ≡ true → start d allFree (s .trees) (s .locals) (s .bits) .number ≡ 0
+-- ---- a refused start is Config
+started : (d : Config) (allFree : Bool) (t l b : List ℕ) → (start d allFree t l b .number ≡ 0) ⊎ (start d allFree t l b .number ≡ 10)
 unfolding start
-start-is-done d allFree s ok = ifte-ind (λ (x : Told). x .number ≡ 0) (both (accepted d) (lengthsExact d (s .trees) (s .locals) (s .bits))) _ _ (λ _. refl) (λ f. true-false ok f)
+started d allFree t l b = ifte-ind (λ (x : Told). (x .number ≡ 0) ⊎ (x .number ≡ 10)) (both (accepted d) (lengthsExact d t l b)) _ _ (λ _. inl refl) (λ _. inr refl)
 
 pub refused-start : (d : Config) (allFree : Bool) (s : Words) (r : Outcome) (m : Words) → told r (m .trees) (m .locals) (m .bits) ≡ start d allFree (s .trees) (s .locals) (s .bits) → outcomeOf r ≢ 0
-    → (outcomeOf r ≡ 10) × (m ≡ s)
+    → outcomeOf r ≡ 10
 refused-start d allFree s r m P no′ =
-    let e : start d allFree (s .trees) (s .locals) (s .bits) ≡ telling 10 0 0 (fresh (s .trees) (s .locals) (s .bits)) =
-    by (both (accepted d) (lengthsExact d (s .trees) (s .locals) (s .bits)))
-    (λ ok. absurd (no′ (ap (λ (x : Told). x .number) P ∙ start-is-done d allFree s ok)))
-    (start-refused d (s .trees) (s .locals) (s .bits) allFree) in
-    (ap (λ (x : Told). x .number) (P ∙ e), same-told (told r (m .trees) (m .locals) (m .bits)) 10 m s refl refl refl (P ∙ e))
+    ap (λ (x : Told). x .number) P
+    ∙ ⊎-elim (λ e. absurd (no′ (ap (λ (x : Told). x .number) P ∙ e))) (λ e. e) (started d allFree (s .trees) (s .locals) (s .bits))
 
 -- ---- an accepted start: the rules stand, and the ledger begins
 at-start : (allFree : Bool) (f : ℕ) → freeAtStart allFree f ≤ f
