@@ -1,4 +1,4 @@
--- Demand 3: over any finite sequence of calls after an accepted start, nothing drifts. Chains of calls, the ledger of calls and answers, the statement. Assumes nothing.
+-- Demand 3: over any finite sequence of calls after an accepted start, nothing drifts. Chains of calls, the ledger of calls and answers, the statements. Assumes nothing.
 use mathlib.Core.Path.{_≡_}
 use mathlib.Core.Bool.{Bool, true, false, not}
 use mathlib.Core.List.{List, [], _∷_}
