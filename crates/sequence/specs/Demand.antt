@@ -1,4 +1,4 @@
--- Demand 3: over any finite sequence of calls after an accepted start, nothing drifts. Chains of calls, the ledger of calls and answers, the statement. Assumes nothing.
+-- Demand 3: over any finite sequence of calls after an accepted start, nothing drifts. Chains of calls, the ledger of calls and answers, the statements. Assumes nothing.
 use mathlib.Core.Path.{_≡_}
 use mathlib.Core.Bool.{Bool, true, false, not}
 use mathlib.Core.List.{List, [], _∷_}
@@ -6,7 +6,7 @@ use Prim.Native.Nat.{ℕ, _+_, _-_, _*_, _/_, _^_, _<_}
 use lib.Dec.{eqb, leb, ltb}
 use lib.ListN.{getD, length}
 use Rattle.rules.specs.Base.{pick, both, either, sum}
-use Rattle.rules.specs.Words.{treeFrames, treeCount, entryAt, localAt}
+use Rattle.rules.specs.Words.{config, treeFrames, treeCount, entryAt, localAt}
 use Rattle.rules.specs.declared.Header.{Header}
 use Rattle.rules.specs.declared.Request.{Request}
 use Rattle.rules.specs.declared.Name.{Name}
@@ -17,7 +17,7 @@ use Rattle.ways.specs.declared.Granted.the-variants as Granted
 use Rattle.ways.specs.declared.Reply.{Reply}
 use Rattle.ways.specs.declared.Tally.{Tally}
 use Rattle.ways.specs.declared.Totals.{Totals}
-use Rattle.ways.specs.Standing.{treeOn}
+use Rattle.ways.specs.Standing.{treeOn, standing}
 use Rattle.ways.specs.Calls.{numberOf, outcomeOf, freeAtStart, atMost}
 use Rattle.ways.specs.Promises.{Words, StartPromise, GetPromise, PutPromise, DrainPromise, StatisticsPromise}
 
@@ -169,3 +169,29 @@ abbrev pub Sequence : Type 0
 Sequence = (h : Header) (pairs : List ℕ) (allFree : Bool) (s0 s e : Words) (r : Outcome) (xs : List Step)
     → StartPromise h pairs allFree s0 r s → outcomeOf r ≡ 0 → NoRestart xs → Chain h pairs xs s e
     → Demand3 11 (h .frames) allFree xs e
+
+-- ---- three more
+
+-- no call answers Stuck
+abbrev pub NoneStuck : List Step → Type 0
+NoneStuck [] = Unit {0}
+NoneStuck (x ∷ xs) = (number x ≡ 9 → ⊥) × NoneStuck xs
+
+-- no call of such a chain is Stuck
+abbrev pub NeverStuck : Type 0
+NeverStuck = (h : Header) (pairs : List ℕ) (allFree : Bool) (s0 s e : Words) (r : Outcome) (xs : List Step)
+    → StartPromise h pairs allFree s0 r s → outcomeOf r ≡ 0 → NoRestart xs → Chain h pairs xs s e
+    → NoneStuck xs
+
+-- nor of a chain from any words that pass the state test, tree words being words of 32 bits
+abbrev pub FromStanding : Type 0
+FromStanding = (h : Header) (pairs : List ℕ) (s e : Words) (xs : List Step)
+    → standing (config h pairs) (s .trees) (s .locals) (s .bits) ≡ true → ((t : ℕ) → getD (s .trees) t 0 < 2 ^ 32)
+    → NoRestart xs → Chain h pairs xs s e
+    → (NoneBroken xs × NoneStuck xs) × (standing (config h pairs) (e .trees) (e .locals) (e .bits) ≡ true)
+
+-- from any words: Done and Memory leave them as the rules say, Stuck as the step before left them, all others unchanged
+abbrev pub OthersUnchanged : Type 0
+OthersUnchanged = (h : Header) (pairs : List ℕ) (x : Step) (s e : Words)
+    → Promised h pairs x s e → (number x ≡ 0 → ⊥) → (number x ≡ 7 → ⊥) → (number x ≡ 9 → ⊥)
+    → e ≡ s

@@ -1,0 +1,160 @@
+-- Each promise is complete: two answers that satisfy it for the same input are equal, and so is every lent word after them. Assumes nothing.
+use mathlib.Core.Path.{_≡_, refl, sym, ap, ap₂, _∙_}
+use mathlib.Core.Bool.{Bool}
+use mathlib.Core.List.{List}
+use Prim.Native.Nat.{ℕ}
+use native.Mathlib.Omega.{arith}
+use lib.Dec.{eqb}
+use Rattle.rules.specs.Base.{pick}
+use Rattle.rules.specs.declared.Header.{Header}
+use Rattle.rules.specs.declared.Request.{Request}
+use Rattle.rules.specs.declared.Name.{Name}
+use Rattle.ways.specs.declared.Refusal.{Refusal}
+use Rattle.ways.specs.declared.Refusal.the-variants as Refusal
+use Rattle.ways.specs.declared.Outcome.{Outcome}
+use Rattle.ways.specs.declared.Outcome.the-variants as Outcome
+use Rattle.ways.specs.declared.Granted.{Granted}
+use Rattle.ways.specs.declared.Granted.the-variants as Granted
+use Rattle.ways.specs.declared.Reply.{Reply}
+use Rattle.ways.specs.declared.Tally.{Tally}
+use Rattle.ways.specs.declared.Totals.{Totals}
+use Rattle.ways.specs.State.{State, st}
+use Rattle.ways.specs.Calls.{Told, numberOf, outcomeOf, tellGet, told}
+use Rattle.ways.specs.Statistics.{Report}
+use Rattle.ways.specs.Promises.{Words, words, StartPromise, GetPromise, PutPromise, DrainPromise, StatisticsPromise}
+
+-- ---- a number tells the refusal
+refusalOf : ℕ → Refusal
+refusalOf n =
+    pick (eqb n 1) Refusal.Broken
+    (pick (eqb n 2) Refusal.Order
+    (pick (eqb n 3) Refusal.Bounds
+    (pick (eqb n 4) Refusal.Misaligned
+    (pick (eqb n 5) Refusal.Class
+    (pick (eqb n 6) Refusal.Local
+    (pick (eqb n 7) Refusal.Memory
+    (pick (eqb n 8) Refusal.NotHeld
+    (pick (eqb n 9) Refusal.Stuck
+    (pick (eqb n 10) Refusal.Config Refusal.Rows)))))))))
+
+back : (x : Refusal) → refusalOf (numberOf x) ≡ x
+unfolding numberOf refusalOf
+back Refusal.Broken = refl
+back Refusal.Order = refl
+back Refusal.Bounds = refl
+back Refusal.Misaligned = refl
+back Refusal.Class = refl
+back Refusal.Local = refl
+back Refusal.Memory = refl
+back Refusal.NotHeld = refl
+back Refusal.Stuck = refl
+back Refusal.Config = refl
+back Refusal.Rows = refl
+
+same-refusal : (x y : Refusal) → numberOf x ≡ numberOf y → x ≡ y
+same-refusal x y e = sym (back x) ∙ ap refusalOf e ∙ back y
+
+-- no refusal is 0
+pub refused : {X : Type 0} (x : Refusal) → numberOf x ≡ 0 → X
+unfolding numberOf
+refused Refusal.Broken e = absurd (omega (arith, e))
+refused Refusal.Order e = absurd (omega (arith, e))
+refused Refusal.Bounds e = absurd (omega (arith, e))
+refused Refusal.Misaligned e = absurd (omega (arith, e))
+refused Refusal.Class e = absurd (omega (arith, e))
+refused Refusal.Local e = absurd (omega (arith, e))
+refused Refusal.Memory e = absurd (omega (arith, e))
+refused Refusal.NotHeld e = absurd (omega (arith, e))
+refused Refusal.Stuck e = absurd (omega (arith, e))
+refused Refusal.Config e = absurd (omega (arith, e))
+refused Refusal.Rows e = absurd (omega (arith, e))
+
+same-outcome : (x y : Outcome) → outcomeOf x ≡ outcomeOf y → x ≡ y
+unfolding outcomeOf
+same-outcome Outcome.Done Outcome.Done e = refl
+same-outcome Outcome.Done (Outcome.Refused y) e = refused y (sym e)
+same-outcome (Outcome.Refused x) Outcome.Done e = refused x e
+same-outcome (Outcome.Refused x) (Outcome.Refused y) e = ap Outcome.Refused (same-refusal x y e)
+
+-- ---- what is told fixes the answer and the words
+pub same-words : (e d : Words) → e .trees ≡ d .trees → e .locals ≡ d .locals → e .bits ≡ d .bits → e ≡ d
+same-words e d p q r =
+    ap (λ (x : List ℕ). words x (e .locals) (e .bits)) p ∙ ap (λ (x : List ℕ). words (d .trees) x (e .bits)) q ∙ ap (λ (x : List ℕ). words (d .trees) (d .locals) x) r
+
+told-once : (r q : Outcome) (e d : Words) → told r (e .trees) (e .locals) (e .bits) ≡ told q (d .trees) (d .locals) (d .bits) → (r ≡ q) × (e ≡ d)
+told-once r q e d p = (
+  same-outcome r q (ap (λ (x : Told). x .number) p),
+  same-words e d (ap (λ (x : Told). x .trees) p) (ap (λ (x : Told). x .locals) p) (ap (λ (x : Told). x .bits) p),
+)
+
+-- a get's answer
+pub record Once (g u : Granted) (s v : State) : Type 0 where
+  pub granted : g ≡ u
+  pub looks : s .looks ≡ v .looks
+  pub tries : s .tries ≡ v .tries
+  pub trees : s .trees ≡ v .trees
+  pub locals : s .locals ≡ v .locals
+  pub bits : s .bits ≡ v .bits
+
+get-once : (g u : Granted) (s v : State) → tellGet g s ≡ tellGet u v → Once g u s v
+unfolding tellGet
+get-once (Granted.Done f k) (Granted.Done a b) s v p =
+    record {
+      granted = ap₂ (λ (x y : ℕ). Granted.Done x y) (ap (λ (x : Told). x .frame) p) (ap (λ (x : Told). x .class) p);
+      looks = ap (λ (x : Told). x .looks) p;
+      tries = ap (λ (x : Told). x .tries) p;
+      trees = ap (λ (x : Told). x .trees) p;
+      locals = ap (λ (x : Told). x .locals) p;
+      bits = ap (λ (x : Told). x .bits) p;
+    }
+get-once (Granted.Done f k) (Granted.Refused y) s v p = refused y (sym (ap (λ (x : Told). x .number) p))
+get-once (Granted.Refused x) (Granted.Done a b) s v p = refused x (ap (λ (x : Told). x .number) p)
+get-once (Granted.Refused x) (Granted.Refused y) s v p =
+    record {
+      granted = ap Granted.Refused (same-refusal x y (ap (λ (x : Told). x .number) p));
+      looks = ap (λ (x : Told). x .looks) p;
+      tries = ap (λ (x : Told). x .tries) p;
+      trees = ap (λ (x : Told). x .trees) p;
+      locals = ap (λ (x : Told). x .locals) p;
+      bits = ap (λ (x : Told). x .bits) p;
+    }
+
+reply : Granted → ℕ → ℕ → Reply
+reply g i k = record { granted = g; looks = i; tries = k }
+
+same-reply : (r q : Reply) → r .granted ≡ q .granted → r .looks ≡ q .looks → r .tries ≡ q .tries → r ≡ q
+unfolding reply
+same-reply r q a b d =
+    ap (λ (x : Granted). reply x (r .looks) (r .tries)) a ∙ ap (λ (x : ℕ). reply (q .granted) x (r .tries)) b ∙ ap (λ (x : ℕ). reply (q .granted) (q .looks) x) d
+
+totals : Outcome → ℕ → ℕ → Totals
+totals o f t = record { outcome = o; free = f; trees = t }
+
+same-totals : (r q : Totals) → r .outcome ≡ q .outcome → r .free ≡ q .free → r .trees ≡ q .trees → r ≡ q
+unfolding totals
+same-totals r q a b d =
+    ap (λ (x : Outcome). totals x (r .free) (r .trees)) a ∙ ap (λ (x : ℕ). totals (q .outcome) x (r .trees)) b ∙ ap (λ (x : ℕ). totals (q .outcome) (q .free) x) d
+
+-- ---- the theorems: header, table, arguments and words before are the same; r and q are two answers, e and d the words after them
+module _ (h : Header) (pairs : List ℕ) (s : Words) where
+  pub start-complete : (allFree : Bool) (r q : Outcome) (e d : Words) → StartPromise h pairs allFree s r e → StartPromise h pairs allFree s q d → (r ≡ q) × (e ≡ d)
+  start-complete allFree r q e d P Q = told-once r q e d (P ∙ sym Q)
+
+  pub get-complete : (name : Name) (a : Request) (r q : Reply) (e d : Words) → GetPromise h pairs name a s r e → GetPromise h pairs name a s q d → (r ≡ q) × (e ≡ d)
+  get-complete name a r q e d P Q =
+      let O = get-once (r .granted) (q .granted) (st (e .trees) (e .locals) (e .bits) (r .looks) (r .tries)) (st (d .trees) (d .locals) (d .bits) (q .looks) (q .tries)) (P ∙ sym Q) in
+      (same-reply r q (O .granted) (O .looks) (O .tries), same-words e d (O .trees) (O .locals) (O .bits))
+
+  pub put-complete : (f : ℕ) (a : Request) (r q : Outcome) (e d : Words) → PutPromise h pairs f a s r e → PutPromise h pairs f a s q d → (r ≡ q) × (e ≡ d)
+  put-complete f a r q e d P Q = told-once r q e d (P ∙ sym Q)
+
+  pub drain-complete : (r q : Outcome) (e d : Words) → DrainPromise h pairs s r e → DrainPromise h pairs s q d → (r ≡ q) × (e ≡ d)
+  drain-complete r q e d P Q = told-once r q e d (P ∙ sym Q)
+
+  pub statistics-complete : (rows : List Tally) (r q : Totals) (filled others : List Tally) → StatisticsPromise h pairs s rows r filled → StatisticsPromise h pairs s rows q others
+      → (r ≡ q) × (filled ≡ others)
+  statistics-complete rows r q filled others P Q =
+      let T = P ∙ sym Q in (
+        same-totals r q (same-outcome (r .outcome) (q .outcome) (ap (λ (x : Report). x .number) T)) (ap (λ (x : Report). x .free) T) (ap (λ (x : Report). x .trees) T),
+        ap (λ (x : Report). x .rows) T,
+      )

@@ -1,0 +1,2 @@
+-- each promise fixes the answer and every word
+pub mod Complete

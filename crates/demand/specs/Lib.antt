@@ -1,2 +1,0 @@
--- demand 3: what a reader must believe of it
-pub mod Demand

@@ -1,0 +1,103 @@
+-- A call that is not Done, Memory or Stuck leaves the words, whatever they are. Assumes nothing.
+use mathlib.Core.Path.{_≡_, refl, sym, subst}
+use mathlib.Core.Bool.{Bool, true, false}
+use mathlib.Core.Logic.{_≢_}
+use mathlib.Core.List.{List}
+use Prim.Native.Nat.{ℕ, _/_, _^_}
+use lib.Dec.{eqb}
+use Rattle.rules.specs.Base.{pick, both, Out, out}
+use Rattle.rules.specs.Words.{Config, config, treeFrames}
+use Rattle.rules.specs.Policy.{accepted}
+use Rattle.rules.specs.Lower.{heldIn, hasTree, mark, lowerPut}
+use Rattle.rules.specs.declared.Header.{Header}
+use Rattle.rules.specs.declared.Name.{Name}
+use Rattle.rules.specs.declared.Request.{Request}
+use Rattle.ways.specs.declared.Outcome.{Outcome}
+use Rattle.ways.specs.declared.Granted.{Granted}
+use Rattle.ways.specs.declared.Granted.the-variants as Granted
+use Rattle.ways.specs.declared.Got.the-variants as Got
+use Rattle.ways.specs.State.{State, Way, st, withBits}
+use Rattle.ways.specs.Get.{routes}
+use Rattle.ways.specs.Standing.{lengthsExact}
+use Rattle.ways.specs.Calls.{Told, fresh, outcomeOf, told, tellGet, refusal, frameOf, close, get, onGiven, putTo, put, drainClasses, closeDrain, drain, start}
+use Rattle.ways.specs.Promises.{Words}
+use Rattle.step_laws.specs.Steps.{ifte-ind}
+use Rattle.step_laws.specs.Answers.{unless-ind, standing-ind}
+use Rattle.complete.specs.Complete.{same-words}
+use Rattle.sequence.specs.Demand.{Step, gets, puts, drains, counts, starts, Promised, number, numberGot}
+
+-- what a call that is not Done, Memory or Stuck tells has the words t, l and b
+abbrev Left : List ℕ → List ℕ → List ℕ → Told → Type 0
+Left t l b r = r .number ≢ 0 → r .number ≢ 7 → r .number ≢ 9 → (r .trees ≡ t) × ((r .locals ≡ l) × (r .bits ≡ b))
+
+module _ (c : Config) (t l b : List ℕ) where
+  close-left : (w : Way) → Left t l b (close w)
+  unfolding close
+  close-left (out (Got.Done f k) s) x y z = absurd (x refl)
+  close-left (out Got.Missed s) x y z = absurd (y refl)
+  close-left (out (Got.MissedAt i) s) x y z = absurd (y refl)
+  close-left (out Got.Stuck s) x y z = absurd (z refl)
+
+  get-left : (q : Request) (name : Name) → Left t l b (get c q name t l b)
+  unfolding get
+  get-left q name =
+      standing-ind (Left t l b) c (fresh t l b) _
+      (λ _. unless-ind (Left t l b) (refusal c q (frameOf name)) (fresh t l b) _ (λ n d x y z. (refl, (refl, refl))) (λ _. close-left (routes c q name (fresh t l b))))
+      (λ _ x y z. (refl, (refl, refl)))
+
+  -- the lower refuses a put and leaves the bitmap
+  given-left : (z o f : ℕ) (next : State → State) → Left t l b (onGiven (lowerPut z b o f) (fresh t l b) next)
+  unfolding onGiven lowerPut withBits
+  given-left z o f next = go (hasTree z b (f / treeFrames z)) (eqb (heldIn b o (f / 2 ^ o)) (2 ^ o))
+    where
+      go : (i j : Bool) → Left t l b (onGiven (pick i (pick j (out true (mark false b o (f / 2 ^ o))) (out false b)) (out false b)) (fresh t l b) next)
+      go true true x y z = absurd (x refl)
+      go true false x y z = (refl, (refl, refl))
+      go false j x y z = (refl, (refl, refl))
+
+  put-left : (q : Request) (f : ℕ) → Left t l b (put c q f t l b)
+  unfolding put
+  put-left q f =
+      standing-ind (Left t l b) c (fresh t l b) _
+      (λ _. unless-ind (Left t l b) (refusal c q f) (fresh t l b) _ (λ n d x y z. (refl, (refl, refl))) (λ _. given-left (c .order) (q .order) f (putTo c q f (q .local))))
+      (λ _ x y z. (refl, (refl, refl)))
+
+  drained-left : (w : Out Bool State) → Left t l b (closeDrain w)
+  unfolding closeDrain
+  drained-left (out true s) x y z = absurd (x refl)
+  drained-left (out false s) x y z = absurd (z refl)
+
+  drain-left : Left t l b (drain c t l b)
+  unfolding drain
+  drain-left = standing-ind (Left t l b) c (fresh t l b) _ (λ _. drained-left (drainClasses 8 c 0 (fresh t l b))) (λ _ x y z. (refl, (refl, refl)))
+
+  start-left : (allFree : Bool) → Left t l b (start c allFree t l b)
+  unfolding start
+  start-left allFree = ifte-ind (Left t l b) (both (accepted c) (lengthsExact c t l b)) _ _ (λ _ x y z. absurd (x refl)) (λ _ x y z. (refl, (refl, refl)))
+
+-- an answer and words that tell it
+told-left : (r : Outcome) (s e : Words) (d : Told) → told r (e .trees) (e .locals) (e .bits) ≡ d → Left (s .trees) (s .locals) (s .bits) d
+    → outcomeOf r ≢ 0 → outcomeOf r ≢ 7 → outcomeOf r ≢ 9 → e ≡ s
+told-left r s e d P h x y z =
+    let u = subst (Left (s .trees) (s .locals) (s .bits)) (sym P) h x y z in
+    same-words e s (u .0) (u .1 .0) (u .1 .1)
+
+got-left : (g : Granted) (s e : Words) (i k : ℕ) (d : Told) → tellGet g (st (e .trees) (e .locals) (e .bits) i k) ≡ d → Left (s .trees) (s .locals) (s .bits) d
+    → numberGot g ≢ 0 → numberGot g ≢ 7 → numberGot g ≢ 9 → e ≡ s
+unfolding tellGet numberGot
+got-left (Granted.Done f u) s e i k d P h x y z = absurd (x refl)
+got-left (Granted.Refused w) s e i k d P h x y z =
+    let u = subst (Left (s .trees) (s .locals) (s .bits)) (sym P) h x y z in
+    same-words e s (u .0) (u .1 .0) (u .1 .1)
+
+-- a step of any call
+pub step-left : (h : Header) (pairs : List ℕ) (x : Step) (s e : Words) → Promised h pairs x s e → number x ≢ 0 → number x ≢ 7 → number x ≢ 9 → e ≡ s
+unfolding number
+step-left h pairs (gets name q r) s e P =
+    got-left (r .granted) s e (r .looks) (r .tries) (get (config h pairs) q name (s .trees) (s .locals) (s .bits)) P (get-left (config h pairs) (s .trees) (s .locals) (s .bits) q name)
+step-left h pairs (puts f q r) s e P =
+    told-left r s e (put (config h pairs) q f (s .trees) (s .locals) (s .bits)) P (put-left (config h pairs) (s .trees) (s .locals) (s .bits) q f)
+step-left h pairs (drains r) s e P = told-left r s e (drain (config h pairs) (s .trees) (s .locals) (s .bits)) P (drain-left (config h pairs) (s .trees) (s .locals) (s .bits))
+step-left h pairs (counts rows r filled) s e P = λ x y z. P .1
+step-left h pairs (starts d table allFree r) s e P =
+    told-left r s e (start (config d table) allFree (s .trees) (s .locals) (s .bits)) P (start-left (config d table) (s .trees) (s .locals) (s .bits) allFree)

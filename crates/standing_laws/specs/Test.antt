@@ -1,0 +1,148 @@
+-- The test of the whole state and its parts: what a part that passes says, and what makes it pass. Assumes nothing.
+use mathlib.Core.Path.{_≡_, refl, sym, ap}
+use mathlib.Core.Bool.{Bool, true, false, not}
+use mathlib.Core.List.{List}
+use Prim.Native.Nat.{ℕ, _+_, _-_, _*_, _<_, _≤_}
+use lib.Dec.{eqb, leb, ltb}
+use lib.ListN.{getD, length}
+use borrow.Author.Tests.{eqb-true, leb-true, ltb-true, eq-eqb, ne-eqb, le-leb, lt-ltb, eqb-false, not-true}
+use Rattle.rules.specs.Base.{pick, allBelow}
+use Rattle.rules.specs.Words.{Config, treeFrames, treeRows, trees, configured, localsOf, slot, localCount, entryAt, localAt}
+use Rattle.rules.specs.Policy.{accepted, good, Good}
+use Rattle.rules.specs.Lower.{held, clear}
+use Rattle.rules.specs.declared.Local.{Local}
+use Rattle.ways.specs.Standing.{treeOn, lengthsExact, entryStands, holderStands, localStands, classStands, apart, apartBefore, reservedCount, presentCount, pastHeld, standing}
+use Rattle.policy_laws.specs.All.{true-false, both-left, both-right, both-true, all-at, all-make}
+use Rattle.policy_laws.specs.Kinds.{good-fact, good-true}
+
+-- of an entry
+pub record EntryPart (c : Config) (ts bs : List ℕ) (t : ℕ) : Type 0 where
+  pub free : entryAt ts t .free ≤ treeFrames (c .order)
+  pub class : configured (c .places) (entryAt ts t .class) ≡ true
+  pub unheld : entryAt ts t .reserved ≡ false → entryAt ts t .free ≡ clear (c .order) bs t
+
+-- of a present local of class k
+pub record HolderPart (c : Config) (ts bs : List ℕ) (k : ℕ) (l : Local) : Type 0 where
+  pub inside : treeOn (c .order) l < trees c
+  pub reserved : entryAt ts (treeOn (c .order) l) .reserved ≡ true
+  pub pair : Good c k (entryAt ts (treeOn (c .order) l) .class)
+  pub sum : entryAt ts (treeOn (c .order) l) .free + l .free ≡ clear (c .order) bs (treeOn (c .order) l)
+
+-- of the whole state
+pub record Parts (c : Config) (ts ls bs : List ℕ) : Type 0 where
+  pub config : accepted c ≡ true
+  pub treeWords : length ts ≡ trees c
+  pub localWords : length ls ≡ localCount (c .places)
+  pub bitWords : length bs ≡ treeRows (c .order) * trees c
+  pub entries : (t : ℕ) → t < trees c → EntryPart c ts bs t
+  pub present : (k i : ℕ) → k < 8 → i < localsOf (c .places) k → localAt ls (slot (c .places) k i) .present ≡ true → HolderPart c ts bs k (localAt ls (slot (c .places) k i))
+  pub absent : (k i : ℕ) → k < 8 → i < localsOf (c .places) k → localAt ls (slot (c .places) k i) .present ≡ false → getD ls (slot (c .places) k i) 0 ≡ 0
+  pub distinct : (i j : ℕ) → i < j → j < localCount (c .places) → localAt ls i .present ≡ true → localAt ls j .present ≡ true → treeOn (c .order) (localAt ls i) ≡ treeOn (c .order) (localAt ls j) → ⊥
+  pub counts : reservedCount ts (trees c) ≡ presentCount ls (localCount (c .places))
+  pub past : held bs (c .frames) (length bs * 64 - c .frames) ≡ length bs * 64 - c .frames
+
+pick-at : (t a b : Bool) → pick t a b ≡ true → t ≡ true → a ≡ true
+pick-at true a b h e = h
+pick-at false a b h e = true-false e refl
+
+pick-else : (t a b : Bool) → pick t a b ≡ true → t ≡ false → b ≡ true
+pick-else true a b h e = true-false refl e
+pick-else false a b h e = h
+
+pick-make : (t a b : Bool) → (t ≡ true → a ≡ true) → (t ≡ false → b ≡ true) → pick t a b ≡ true
+pick-make true a b f g = f refl
+pick-make false a b f g = g refl
+
+module _ (c : Config) (ts ls bs : List ℕ) where
+  entry-says : (t : ℕ) → entryStands c ts bs t ≡ true → EntryPart c ts bs t
+  unfolding entryStands
+  entry-says t e =
+      let r = both-right (leb (entryAt ts t .free) (treeFrames (c .order))) _ e in
+      record {
+        free = leb-true _ _ (both-left (leb (entryAt ts t .free) (treeFrames (c .order))) _ e);
+        class = both-left (configured (c .places) (entryAt ts t .class)) _ r;
+        unheld = λ p. eqb-true _ _ (pick-else (entryAt ts t .reserved) true _ (both-right (configured (c .places) (entryAt ts t .class)) _ r) p);
+      }
+
+  says-entry : (t : ℕ) → EntryPart c ts bs t → entryStands c ts bs t ≡ true
+  unfolding entryStands
+  says-entry t E =
+      both-true (leb (entryAt ts t .free) (treeFrames (c .order))) _ (le-leb _ _ (E .free))
+      (both-true (configured (c .places) (entryAt ts t .class)) _ (E .class)
+      (pick-make (entryAt ts t .reserved) true (eqb (entryAt ts t .free) (clear (c .order) bs t)) (λ _. refl) (λ p. eq-eqb _ _ (E .unheld p))))
+
+  holder-says : (k : ℕ) (l : Local) → holderStands c ts bs k l ≡ true → HolderPart c ts bs k l
+  unfolding holderStands
+  holder-says k l e =
+      let a = both-right (ltb (treeOn (c .order) l) (trees c)) _ e in
+      let b = both-right (entryAt ts (treeOn (c .order) l) .reserved) _ a in
+      record {
+        inside = ltb-true _ _ (both-left (ltb (treeOn (c .order) l) (trees c)) _ e);
+        reserved = both-left (entryAt ts (treeOn (c .order) l) .reserved) _ a;
+        pair = good-fact c k (entryAt ts (treeOn (c .order) l) .class) (both-left (good c k (entryAt ts (treeOn (c .order) l) .class)) _ b);
+        sum = eqb-true _ _ (both-right (good c k (entryAt ts (treeOn (c .order) l) .class)) _ b);
+      }
+
+  says-holder : (k : ℕ) (l : Local) → HolderPart c ts bs k l → holderStands c ts bs k l ≡ true
+  unfolding holderStands
+  says-holder k l H =
+      both-true (ltb (treeOn (c .order) l) (trees c)) _ (lt-ltb _ _ (H .inside))
+      (both-true (entryAt ts (treeOn (c .order) l) .reserved) _ (H .reserved)
+      (both-true (good c k (entryAt ts (treeOn (c .order) l) .class)) _ (good-true c k (entryAt ts (treeOn (c .order) l) .class) (H .pair)) (eq-eqb _ _ (H .sum))))
+
+  local-at : (k i : ℕ) → k < 8 → i < localsOf (c .places) k → allBelow 8 (classStands c ts ls bs) ≡ true → localStands c ts ls bs k (slot (c .places) k i) ≡ true
+  unfolding classStands
+  local-at k i lk li e = all-at (localsOf (c .places) k) (λ i. localStands c ts ls bs k (slot (c .places) k i)) (all-at 8 (classStands c ts ls bs) e k lk) i li
+
+  local-make : ((k i : ℕ) → k < 8 → i < localsOf (c .places) k → localStands c ts ls bs k (slot (c .places) k i) ≡ true) → allBelow 8 (classStands c ts ls bs) ≡ true
+  unfolding classStands
+  local-make h = all-make 8 (classStands c ts ls bs) (λ k lk. all-make (localsOf (c .places) k) (λ i. localStands c ts ls bs k (slot (c .places) k i)) (λ i li. h k i lk li))
+
+  apart-says : (i j : ℕ) → i < j → apartBefore (c .order) ls j ≡ true → localAt ls i .present ≡ true → localAt ls j .present ≡ true → treeOn (c .order) (localAt ls i) ≡ treeOn (c .order) (localAt ls j) → ⊥
+  unfolding apartBefore apart
+  apart-says i j l e p q d =
+      eqb-false _ _ (not-true _ (pick-at (localAt ls i .present) _ true (pick-at (localAt ls j .present) _ true (all-at j (λ i. apart (c .order) (localAt ls j) (localAt ls i)) e i l) q) p)) (sym d)
+
+  says-apart : (j : ℕ) → ((i : ℕ) → i < j → localAt ls i .present ≡ true → localAt ls j .present ≡ true → treeOn (c .order) (localAt ls i) ≡ treeOn (c .order) (localAt ls j) → ⊥) → apartBefore (c .order) ls j ≡ true
+  unfolding apartBefore apart
+  says-apart j h =
+      all-make j (λ i. apart (c .order) (localAt ls j) (localAt ls i))
+      (λ i l. pick-make (localAt ls j .present) _ true (λ q. pick-make (localAt ls i .present) _ true (λ p. ap not (ne-eqb (treeOn (c .order) (localAt ls j)) (treeOn (c .order) (localAt ls i)) (λ d. h i l p q (sym d)))) (λ _. refl)) (λ _. refl))
+
+  -- the parts of a state that passes
+  pub test-parts : standing c ts ls bs ≡ true → Parts c ts ls bs
+  unfolding standing lengthsExact localStands pastHeld
+  test-parts e =
+      let a = both-right (accepted c) _ e in
+      let l = both-left (lengthsExact c ts ls bs) _ a in
+      let l1 = both-right (eqb (length ts) (trees c)) _ l in
+      let b = both-right (lengthsExact c ts ls bs) _ a in
+      let d = both-right (allBelow (trees c) (entryStands c ts bs)) _ b in
+      let f = both-right (allBelow 8 (classStands c ts ls bs)) _ d in
+      let g = both-right (allBelow (localCount (c .places)) (apartBefore (c .order) ls)) _ f in
+      let locals = both-left (allBelow 8 (classStands c ts ls bs)) _ d in
+      record {
+        config = both-left (accepted c) _ e;
+        treeWords = eqb-true _ _ (both-left (eqb (length ts) (trees c)) _ l);
+        localWords = eqb-true _ _ (both-left (eqb (length ls) (localCount (c .places))) _ l1);
+        bitWords = eqb-true _ _ (both-right (eqb (length ls) (localCount (c .places))) _ l1);
+        entries = λ t lt. entry-says t (all-at (trees c) (entryStands c ts bs) (both-left (allBelow (trees c) (entryStands c ts bs)) _ b) t lt);
+        present = λ k i lk li p. holder-says k (localAt ls (slot (c .places) k i)) (pick-at (localAt ls (slot (c .places) k i) .present) _ _ (local-at k i lk li locals) p);
+        absent = λ k i lk li p. eqb-true _ _ (pick-else (localAt ls (slot (c .places) k i) .present) _ _ (local-at k i lk li locals) p);
+        distinct = λ i j l m. apart-says i j l (all-at (localCount (c .places)) (apartBefore (c .order) ls) (both-left (allBelow (localCount (c .places)) (apartBefore (c .order) ls)) _ f) j m);
+        counts = eqb-true _ _ (both-left (eqb (reservedCount ts (trees c)) (presentCount ls (localCount (c .places)))) _ g);
+        past = eqb-true _ _ (both-right (eqb (reservedCount ts (trees c)) (presentCount ls (localCount (c .places)))) _ g);
+      }
+
+  -- and a state with these parts passes
+  pub parts-test : Parts c ts ls bs → standing c ts ls bs ≡ true
+  unfolding standing lengthsExact localStands pastHeld
+  parts-test P =
+      both-true (accepted c) _ (P .config)
+      (both-true (lengthsExact c ts ls bs) _
+      (both-true (eqb (length ts) (trees c)) _ (eq-eqb _ _ (P .treeWords)) (both-true (eqb (length ls) (localCount (c .places))) _ (eq-eqb _ _ (P .localWords)) (eq-eqb _ _ (P .bitWords))))
+      (both-true (allBelow (trees c) (entryStands c ts bs)) _ (all-make (trees c) (entryStands c ts bs) (λ t lt. says-entry t (P .entries t lt)))
+      (both-true (allBelow 8 (classStands c ts ls bs)) _
+      (local-make (λ k i lk li. pick-make (localAt ls (slot (c .places) k i) .present) _ _ (λ p. says-holder k (localAt ls (slot (c .places) k i)) (P .present k i lk li p)) (λ p. eq-eqb _ _ (P .absent k i lk li p))))
+      (both-true (allBelow (localCount (c .places)) (apartBefore (c .order) ls)) _ (all-make (localCount (c .places)) (apartBefore (c .order) ls) (λ j m. says-apart j (λ i l. P .distinct i j l m)))
+      (both-true (eqb (reservedCount ts (trees c)) (presentCount ls (localCount (c .places)))) _ (eq-eqb _ _ (P .counts)) (eq-eqb _ _ (P .past)))))))
