@@ -16,12 +16,12 @@ same-length c = search needs
 returns : tie.Need-returns
 unfolding localClear
 returns c = (
-      rw (
-        ← c .before .before .before .before .load .ensures .0,
-        ← c .before .before .store .ensures,
-      ),
-      c .before .before .before .before .load .ensures .1 .1,
-    )
+  rw (
+    ← c .before .before .before .before .load .ensures .0,
+    ← c .before .before .store .ensures,
+  ),
+  c .before .before .before .before .load .ensures .1 .1,
+)
 
 pub clear-spec : {M : Type 1} → statement M
 clear-spec = tie.close (tie.spec load-requires store-requires same-length returns)

@@ -19,13 +19,13 @@ same-length c = search needs
 returns : tie.Need-returns
 unfolding localSwap
 returns c = (
-      rw (
-        ← c .before .before .before .before .before .load .ensures .0,
-        ← c .before .before .before .local-word .ensures,
-        ← c .before .before .store .ensures,
-      ),
-      c .before .before .before .before .before .load .ensures .1 .1,
-    )
+  rw (
+    ← c .before .before .before .before .before .load .ensures .0,
+    ← c .before .before .before .local-word .ensures,
+    ← c .before .before .store .ensures,
+  ),
+  c .before .before .before .before .before .load .ensures .1 .1,
+)
 
 pub swap-spec : {M : Type 1} → statement M
 swap-spec =

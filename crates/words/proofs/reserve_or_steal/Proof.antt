@@ -18,8 +18,10 @@ returns c =
 returns-2 : tie.Need-returns-2
 unfolding reserveOf reserveKind
 returns-2 c =
-    rw (c .before .before .if1 .left,
-    lt-ltb _ _ (c .if2 .taken))
+    rw (
+      c .before .before .if1 .left,
+      lt-ltb _ _ (c .if2 .taken),
+    )
 
 -- src/lib.rt:172:11
 ask-requires : tie.Need-ask-requires
@@ -53,37 +55,45 @@ cast-t14 c = search needs
 returns-3 : tie.Need-returns-3
 unfolding reserveOf reserveKind
 returns-3 c =
-    rw (c .before .before .before .before .before .if1 .left,
-    le-ltb _ _ (c .before .before .before .if2 .left),
-    ← c .before .before .ask .ensures,
-    c .enum-told .given .1)
+    rw (
+      c .before .before .before .before .before .if1 .left,
+      le-ltb _ _ (c .before .before .before .if2 .left),
+      ← c .before .before .ask .ensures,
+      c .enum-told .given .1,
+    )
 
 -- src/lib.rt:162:1
 returns-4 : tie.Need-returns-4
 unfolding reserveOf reserveKind
 returns-4 c =
-    rw (c .before .before .before .before .before .before .if1 .left,
-    le-ltb _ _ (c .before .before .before .before .if2 .left),
-    ← c .before .before .before .ask .ensures,
-    c .before .enum-told2 .given .1)
+    rw (
+      c .before .before .before .before .before .before .if1 .left,
+      le-ltb _ _ (c .before .before .before .before .if2 .left),
+      ← c .before .before .before .ask .ensures,
+      c .before .enum-told2 .given .1,
+    )
 
 -- src/lib.rt:162:1
 returns-5 : tie.Need-returns-5
 unfolding reserveOf reserveKind
 returns-5 c =
-    rw (c .before .before .before .before .before .before .if1 .left,
-    le-ltb _ _ (c .before .before .before .before .if2 .left),
-    ← c .before .before .before .ask .ensures,
-    c .before .enum-told3 .given .1)
+    rw (
+      c .before .before .before .before .before .before .if1 .left,
+      le-ltb _ _ (c .before .before .before .before .if2 .left),
+      ← c .before .before .before .ask .ensures,
+      c .before .enum-told3 .given .1,
+    )
 
 -- src/lib.rt:162:1
 returns-6 : tie.Need-returns-6
 unfolding reserveOf reserveKind
 returns-6 c =
-    rw (c .before .before .before .before .before .before .if1 .left,
-    le-ltb _ _ (c .before .before .before .before .if2 .left),
-    ← c .before .before .before .ask .ensures,
-    c .before .enum-told4 .given .1)
+    rw (
+      c .before .before .before .before .before .before .if1 .left,
+      le-ltb _ _ (c .before .before .before .before .if2 .left),
+      ← c .before .before .before .ask .ensures,
+      c .before .enum-told4 .given .1,
+    )
 
 pub reserve-or-steal-spec : {M : Type 1} → statement M
 reserve-or-steal-spec =
