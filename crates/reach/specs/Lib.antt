@@ -7,4 +7,4 @@ pub mod Walks
 pub mod Own
 pub mod Lenders
 -- the theorem
--- pub mod Memory
+pub mod Memory
