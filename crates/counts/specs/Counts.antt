@@ -5,7 +5,7 @@ use mathlib.Core.List.{List, [], _∷_}
 use Prim.Native.Nat.{ℕ, zero, suc, _+_, _-_, _*_, _/_, _≤_}
 use native.Mathlib.Omega.{arith}
 use lib.Dec.{ltb}
-use lib.ListN.{length, take, length-take}
+use lib.ListN.{length, length-take}
 use borrow.Author.Tests.{ltb-false}
 use Rattle.rules.specs.Base.{pick, bitOf, Out, out}
 use Rattle.rules.specs.Words.{Config, treeFrames, treeRows, hugeOrder, trees, localsOf, slot, entryAt}
@@ -29,7 +29,7 @@ use Rattle.ways.specs.Locals.{takeBy, topBy, topUp, getLocal, ownLocal, payFrom
 use Rattle.ways.specs.Walk.{place, isFull, rate, Candidate, rated, insert, admit, stealGlobal, reserved, reserveOrSteal, access, Sight, visit, walkSteps, walk, tryList, stopped, searchBest}
 use Rattle.ways.specs.Search.{near, roundedStart, searchFar, searchFrom, searchAndReserve, searchAndSteal}
 use Rattle.ways.specs.Get.{lastRoutes, getAt, startTree, getReserving, searchTrees, getAny, routes}
-use Rattle.ways.specs.Calls.{Told, telling, fresh, refusal, close, frameOf, get}
+use Rattle.ways.specs.Calls.{Told, fresh, refusal, close, frameOf, get}
 use Rattle.step_laws.specs.Steps.{ifte-ind, else-ind, from-ind}
 use Rattle.step_laws.specs.Walks.{tried-ind, visit-ind, sight-ind}
 use Rattle.step_laws.specs.Answers.{unless-ind, standing-ind}

@@ -2,13 +2,12 @@
 use mathlib.Core.Path.{_≡_, refl, sym, ap, subst}
 use mathlib.Core.Bool.{true, false}
 use mathlib.Core.List.{List}
-use Prim.Native.Nat.{ℕ, _+_, _-_, _*_, _/_, _^_, _<_, _≤_}
+use Prim.Native.Nat.{ℕ, _*_, _/_, _^_, _<_, _≤_}
 use native.Mathlib.Omega.{arith}
-use Rattle.rules.specs.Base.{Out, out}
-use Rattle.rules.specs.Words.{Config, treeFrames, treeRows, trees, entryAt, localAt}
+use Rattle.rules.specs.Base.{out}
+use Rattle.rules.specs.Words.{Config, treeRows, trees, entryAt, localAt}
 use Rattle.rules.specs.Policy.{kindAt}
 use Rattle.rules.specs.Lower.{clear, lowerFind}
-use Rattle.rules.specs.declared.Found.{Found}
 use Rattle.rules.specs.declared.Found.the-variants.{Nothing}
 use Rattle.rules.specs.declared.Name.the-variants.{Any}
 use Rattle.rules.specs.declared.Request.{Request}
@@ -16,14 +15,14 @@ use Rattle.ways.specs.declared.Got.{Got}
 use Rattle.ways.specs.declared.Got.the-variants as Got
 use Rattle.ways.specs.declared.Walk.{Walk}
 use Rattle.ways.specs.declared.Walk.the-variants as Walk
-use Rattle.ways.specs.State.{State, st, Way, size, done, missed, stuck, orElse, withTrees, withLocals, withTry, askLower, unreserveLocal}
+use Rattle.ways.specs.State.{State, st, Way, size, done, stuck, orElse, withTrees, askLower}
 use Rattle.ways.specs.Standing.{treeOn}
 use Rattle.ways.specs.Walk.{stealGlobal, reserved, reserveOrSteal, access}
 use Rattle.lower_laws.specs.Clear.{clear-held}
 use Rattle.lower_laws.specs.Search.{search-clear}
 use Rattle.word_laws.specs.Sizes.{Size, first-row}
 use Rattle.hand.specs.Hand.{Kept}
-use Rattle.step_laws.specs.Steps.{else-ind, from-ind, askLower-ind, found-ind, steal-ind, reserve-ind, swap-ind, unreserve-ind, unreserveLocal-ind}
+use Rattle.step_laws.specs.Steps.{else-ind, askLower-ind, found-ind, steal-ind, reserve-ind, swap-ind, unreserve-ind, unreserveLocal-ind}
 use Rattle.moves.specs.Here.{on-shares}
 use Rattle.keeps.specs.Fine.{Asks}
 use Rattle.keeps_calls.specs.Asked.{has-trees}
@@ -67,7 +66,6 @@ module _ (c : Config) (sz : Size (c .order)) (q : Request) (A : Asks c q Any) (s
 
   pub local-clear : (j : ℕ) → localAt ls j .present ≡ true → localAt ls j .free ≤ clear (c .order) bs (treeOn (c .order) (localAt ls j))
   local-clear j p =
-      let t : ℕ = treeOn (c .order) (localAt ls j) in
       omega (arith, K .sum (treeOn (c .order) (localAt ls j)) (K .inside j p), clear-held (c .order) bs (treeOn (c .order) (localAt ls j)) (sz .least), on-shares (c .order) (treeOn (c .order) (localAt ls j)) ls j p refl)
 
   -- the lower does not refuse one frame of a tree with a clear bit

@@ -3,13 +3,13 @@ use mathlib.Core.Path.{_≡_, refl, sym, ap, _∙_, subst}
 use mathlib.Core.Bool.{Bool, true, false}
 use mathlib.Core.Logic.{_≢_, _⊎_, inl, inr}
 use mathlib.Core.List.{List}
-use Prim.Native.Nat.{ℕ, zero, suc, _+_, _-_, _/_, _%_, _^_, _<_, _≤_}
+use Prim.Native.Nat.{ℕ, zero, suc, _+_, _-_, _/_, _%_, _<_, _≤_}
 use native.Mathlib.Nat.{mod-lt, mod-eq-of-lt, mod-eq-sub-mod, mod-add-mod}
 use native.Mathlib.Omega.{arith}
 use lib.Dec.{leb}
 use lib.ListN.{getD, set}
-use borrow.Author.Tests.{leb-false, le-leb}
-use Rattle.rules.specs.Base.{pick, both, firstIn}
+use borrow.Author.Tests.{leb-false}
+use Rattle.rules.specs.Base.{both, firstIn}
 use Rattle.rules.specs.Words.{Config, treeRows, trees, configured, localsOf, slot, localWord, localAt}
 use Rattle.rules.specs.Policy.{policy, kindAt, Configured}
 use Rattle.rules.specs.Locals.{reservation, inTree, hasEnough, cyclic, firstLocal, payerOr, mayPay, mayMove, payerIn, stealAny, demoteAny}
@@ -33,14 +33,14 @@ use Rattle.lower_laws.specs.Cases.{by-eq, below-or}
 use Rattle.word_laws.specs.Sizes.{Size, frames-le}
 use Rattle.word_laws.specs.Words.{row-lt, present-lt}
 use Rattle.policy_laws.specs.All.{true-false, both-left, both-right, both-true}
-use Rattle.policy_laws.specs.Kinds.{kindNumber, policy-number, policy-steal, policy-demote, policy-match, configured-true, configured-fact}
+use Rattle.policy_laws.specs.Kinds.{kindNumber, policy-number, configured-true, configured-fact}
 use Rattle.hand.specs.Hand.{nothing, Kept}
 use Rattle.step_laws.specs.Steps.{ifte-ind, held-ind, swap-ind, clear-ind, unreserve-ind, unreserveLocal-ind}
-use Rattle.step_laws.specs.Payers.{Enough, enough-fact, Pays}
+use Rattle.step_laws.specs.Payers.{enough-fact, Pays}
 use Rattle.moves.specs.Locals.{load-same, local-room}
 use Rattle.keeps.specs.Fine.{Asks}
 use Rattle.reach.specs.Reach.{Lends, Reachable}
-use Rattle.reach.specs.Ends.{Ends, ends-map, one, local-clear, askLower-gives}
+use Rattle.reach.specs.Ends.{Ends, one, local-clear, askLower-gives}
 
 -- going round from any index comes to every one
 round : (L from x : ℕ) → x < L → (d : ℕ) × ((d < L) × ((from + d) % L ≡ x))
@@ -94,7 +94,6 @@ module _ (p : Kind → Bool) (c : Config) (ls : List ℕ) (k from n : ℕ) where
   unfolding payerIn
   payer-both Q zero i none pays = none (λ d a b. absurd (omega arith))
   payer-both Q (suc m) i none pays =
-      let e : ℕ = (k + i) % 8 in
       ifte-ind Q (both (configured (c .places) ((k + i) % 8)) (p (policy c k ((k + i) % 8) n))) _ _
       (λ t. one-class Q ((k + i) % 8) _
       (configured-fact c ((k + i) % 8) (mod-lt (k + i) (omega arith)) (both-left (configured (c .places) ((k + i) % 8)) (p (policy c k ((k + i) % 8) n)) t))
@@ -198,10 +197,13 @@ module _ (c : Config) (sz : Size (c .order)) (q : Request) (A : Asks c q Any) (s
   unfolding stealLocal stealAny payFrom missed withLocals
   stealLocal-ends i k =
       payer-both mayPay c ls (q .class) (indexOf (q .local)) (size q) (λ (x : Payer). Ends Reach NoneSteals ts ls bs (payFrom c q Any x (st ts ls bs i k))) 8 0
-      (λ N. ((λ e le kd.
-      let f = class-far (q .class) e (A .class .0) le in
-      nobody-empty mayPay 0 8 e N (f .0) (omega arith) (omega (arith, f .1 .0)) (f .1 .1)
-      (kind-pay (policy c (q .class) e (size q)) (subst (λ (y : ℕ). (y ≡ 1) ⊎ (y ≡ 3)) (sym (policy-number c (q .class) e (size q))) kd))), refl))
+      (λ N. (
+        (λ e le kd.
+            let f = class-far (q .class) e (A .class .0) le in
+            nobody-empty mayPay 0 8 e N (f .0) (omega arith) (omega (arith, f .1 .0)) (f .1 .1)
+            (kind-pay (policy c (q .class) e (size q)) (subst (λ (y : ℕ). (y ≡ 1) ⊎ (y ≡ 3)) (sym (policy-number c (q .class) e (size q))) kd))),
+        refl,
+      ))
       (λ d j a b P. gives ((q .class + d) % 8) j P)
     where
       gives : (e j : ℕ) → Pays mayPay c ls (q .class) Any (size q) e j → Ends Reach NoneSteals ts ls bs (payFrom c q Any (Payer.Local e j) (st ts ls bs i k))
@@ -236,10 +238,13 @@ module _ (c : Config) (sz : Size (c .order)) (q : Request) (A : Asks c q Any) (s
   unfolding demoteLocal demoteAny moveFrom missed withLocals
   demoteLocal-ends i k =
       payer-both mayMove c ls (q .class) (indexOf (q .local)) (size q) (λ (x : Payer). Ends Reach NoneMoves ts ls bs (moveFrom c q Any x (st ts ls bs i k))) 7 1
-      (λ N. ((λ e le kd ne.
-      let f = class-far (q .class) e (A .class .0) le in
-      nobody-empty mayMove 1 7 e N (f .0) (far (f .0) e ne (f .1 .1)) (omega (arith, f .1 .0)) (f .1 .1)
-      (kind-move (policy c (q .class) e (size q)) (policy-number c (q .class) e (size q) ∙ kd))), refl))
+      (λ N. (
+        (λ e le kd ne.
+            let f = class-far (q .class) e (A .class .0) le in
+            nobody-empty mayMove 1 7 e N (f .0) (far (f .0) e ne (f .1 .1)) (omega (arith, f .1 .0)) (f .1 .1)
+            (kind-move (policy c (q .class) e (size q)) (policy-number c (q .class) e (size q) ∙ kd))),
+        refl,
+      ))
       (λ d j a b P. gives ((q .class + d) % 8) j (λ e. omega (arith, A .class .0)) P)
     where
       far : (d e : ℕ) → e ≢ q .class → (q .class + d) % 8 ≡ e → 1 ≤ d
@@ -250,7 +255,6 @@ module _ (c : Config) (sz : Size (c .order)) (q : Request) (A : Asks c q Any) (s
       gives e j ne P =
           held-ind (Ends Reach NoneMoves ts ls bs) (st ts ls bs i k) (c .order) j Any (size q) _ _ _
           (λ p it le.
-          let row : ℕ = localAt ls j .row in
           let l2 : List ℕ = set ls j (localWord (reservation (localAt ls j .row) (localAt ls j .free - size q))) in
           let is : localAt l2 j ≡ reservation (localAt ls j .row) (localAt ls j .free - size q) =
           load-same ls j (localAt ls j .row) (localAt ls j .free - size q) (present-lt ls j p) (row-lt (getD ls j 0)) (omega (arith, local-room c sz ts ls bs nothing nothing K j p, frames-le (c .order) sz)) in

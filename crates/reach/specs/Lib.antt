@@ -8,3 +8,4 @@ pub mod Own
 pub mod Lenders
 -- the theorem
 pub mod Memory
+pub mod Withheld

@@ -1,14 +1,14 @@
 -- A get of one frame with no name is refused with Memory exactly if no free frame is reachable. Assumes nothing.
 use mathlib.Core.Path.{_≡_, refl, sym, ap, _∙_, subst}
-use mathlib.Core.Bool.{Bool, true, false}
+use mathlib.Core.Bool.{true, false}
 use mathlib.Core.Logic.{_≢_, _⊎_, inl, inr, ⊎-elim}
 use mathlib.Core.List.{List}
-use Prim.Native.Nat.{ℕ, _+_, _-_, _/_, _<_, _≤_}
+use Prim.Native.Nat.{ℕ, _<_, _≤_}
 use native.Mathlib.Omega.{arith}
 use lib.Dec.{ltb}
 use lib.ListN.{length, getD}
 use borrow.Author.Tests.{ltb-true, ltb-false}
-use Rattle.rules.specs.Base.{bitOf, Out, out}
+use Rattle.rules.specs.Base.{out}
 use Rattle.rules.specs.Words.{Config, trees, localsOf, slot, localOf, entryAt, localAt}
 use Rattle.rules.specs.Policy.{kindAt}
 use Rattle.rules.specs.declared.Name.the-variants.{Any}
@@ -18,11 +18,11 @@ use Rattle.rules.specs.declared.Request.{Request}
 use Rattle.ways.specs.declared.Got.{Got}
 use Rattle.ways.specs.declared.Got.the-variants as Got
 use Rattle.ways.specs.State.{State, st, Way}
-use Rattle.ways.specs.Standing.{treeOn, standing}
+use Rattle.ways.specs.Standing.{standing}
 use Rattle.ways.specs.Locals.{getLocal, stealLocal, demoteLocal}
 use Rattle.ways.specs.Search.{searchAndReserve, searchAndSteal}
 use Rattle.ways.specs.Get.{lastRoutes, startTree, getReserving, searchTrees, getAny, routes}
-use Rattle.ways.specs.Calls.{Told, telling, fresh, refusal, close, frameOf, get, drain}
+use Rattle.ways.specs.Calls.{Told, fresh, refusal, close, frameOf, get, drain}
 use Rattle.lower_laws.specs.Sum.{sum-zero}
 use Rattle.word_laws.specs.Sizes.{Size}
 use Rattle.word_laws.specs.Words.{absent-word, bit-false}
@@ -33,7 +33,7 @@ use Rattle.step_laws.specs.Answers.{unless-ind, standing-ind}
 use Rattle.moves.specs.Here.{holds-none}
 use Rattle.keeps.specs.Fine.{Asks}
 use Rattle.keeps_calls.specs.Asked.{accepts, asks}
-use Rattle.keeps_calls.specs.Calls.{GetKeeps, get-keeps, DrainKeeps, drain-keeps}
+use Rattle.keeps_calls.specs.Calls.{get-keeps, drain-keeps}
 use Rattle.reach.specs.Reach.{Lends, OwnAsked, Reachable, Unreachable}
 use Rattle.reach.specs.Ends.{Ends, ends-map, else-ends}
 use Rattle.reach.specs.Walks.{NoTree, searchAndSteal-ends, searchAndReserve-ends}
@@ -137,8 +137,8 @@ module _ (c : Config) (sz : Size (c .order)) (t l b : List ℕ) (S : standing c 
   pub done-exactly : (get c q Any t l b .number ≡ 0 → Reachable c t l (q .class) (q .local)) × (Reachable c t l (q .class) (q .local) → get c q Any t l b .number ≡ 0)
   unfolding frameOf
   done-exactly = (
-      (λ n. ⊎-elim (λ x. absurd (omega (arith, n, x .0))) (λ x. x .1) settled),
-      (λ R. ⊎-elim (λ n. n) (λ n. absurd (not-both c t l (q .class) (q .local) (memory-exactly .0 n) R)) (get-keeps c t l b sz S K q Any fit .number)),
+    (λ n. ⊎-elim (λ x. absurd (omega (arith, n, x .0))) (λ x. x .1) settled),
+    (λ R. ⊎-elim (λ n. n) (λ n. absurd (not-both c t l (q .class) (q .local) (memory-exactly .0 n) R)) (get-keeps c t l b sz S K q Any fit .number)),
   )
 
   -- a get of one frame that is refused with Memory changes no word
@@ -153,10 +153,10 @@ FreeTreesInvalid c ts k = (t : ℕ) → t < trees c → 0 < entryAt ts t .free �
 
 module _ (c : Config) (ts ls bs : List ℕ) (K : Kept c ts ls bs) (absent : (j : ℕ) → getD ls j 0 ≡ 0) where
   -- no local is present, no entry reserved
-  none-present : (j : ℕ) → localAt ls j .present ≡ false
+  pub none-present : (j : ℕ) → localAt ls j .present ≡ false
   none-present j = ap (λ (w : ℕ). localOf w .present) (absent j) ∙ absent-word
 
-  none-reserved : (t : ℕ) → t < trees c → entryAt ts t .reserved ≡ false
+  pub none-reserved : (t : ℕ) → t < trees c → entryAt ts t .reserved ≡ false
   unfolding holders
   none-reserved t lt = bit-false (entryAt ts t .reserved)
       (omega (arith, K .one t lt, sum-zero (λ j. holds (c .order) (localAt ls j) t) 0 (length ls) (λ j a d. holds-none (c .order) (localAt ls j) t (none-present j))))
@@ -164,8 +164,8 @@ module _ (c : Config) (ts ls bs : List ℕ) (K : Kept c ts ls bs) (absent : (j :
   -- with no local present only entries are reachable
   pub only-entries : (k : ℕ) (given : Given) → (Unreachable c ts ls k given → FreeTreesInvalid c ts k) × (FreeTreesInvalid c ts k → Unreachable c ts ls k given)
   only-entries k given = (
-      (λ U t lt pos. U .entries t lt (none-reserved t lt) pos),
-      (λ F. record { entries = λ t lt u pos. F t lt pos; locals = λ e i le li L p. true-false p (none-present (slot (c .places) e i)); own = λ i a p. true-false p (none-present (slot (c .places) k i)) }),
+    (λ U t lt pos. U .entries t lt (none-reserved t lt) pos),
+    (λ F. record { entries = λ t lt u pos. F t lt pos; locals = λ e i le li L p. true-false p (none-present (slot (c .places) e i)); own = λ i a p. true-false p (none-present (slot (c .places) k i)) }),
   )
 
 -- directly after a drain an otherwise valid get of one frame with no name is refused with Memory exactly if every tree whose entry has a free frame is Invalid for its class

@@ -1,25 +1,21 @@
 -- The own local gives one frame exactly if it has one, or its tree's entry has more than one. Assumes nothing.
-use mathlib.Core.Path.{_≡_, refl, sym, ap, _∙_, subst}
-use mathlib.Core.Bool.{true, false}
+use mathlib.Core.Path.{_≡_, refl, ap, subst}
+use mathlib.Core.Bool.{true}
 use mathlib.Core.Logic.{_⊎_, inl, inr, ⊎-elim}
 use mathlib.Core.List.{List}
-use Prim.Native.Nat.{ℕ, _+_, _-_, _/_, _^_, _<_, _≤_}
+use Prim.Native.Nat.{ℕ, _+_, _-_, _/_, _<_, _≤_}
 use native.Mathlib.Omega.{arith}
 use lib.Dec.{ltb}
 use lib.ListN.{getD, set}
 use borrow.Author.Tests.{ltb-true}
-use Rattle.rules.specs.Base.{Out, out}
-use Rattle.rules.specs.Words.{Config, treeFrames, treeRows, trees, localsOf, slot, treeWord, localWord, entry, entryAt, localAt}
+use Rattle.rules.specs.Words.{Config, treeRows, trees, treeWord, localWord, entry, entryAt, localAt}
 use Rattle.rules.specs.Locals.{reservation, inTree}
 use Rattle.rules.specs.Lower.{clear, lowerFind}
 use Rattle.rules.specs.declared.Local.{Local}
 use Rattle.rules.specs.declared.Found.the-variants.{Nothing}
 use Rattle.rules.specs.declared.Name.the-variants.{Any}
-use Rattle.rules.specs.declared.Given.{Given}
-use Rattle.rules.specs.declared.Given.the-variants as Given
 use Rattle.rules.specs.declared.Request.{Request}
-use Rattle.ways.specs.declared.Got.the-variants as Got
-use Rattle.ways.specs.State.{State, st, Way, size, done, missed, missedAt, withTrees, withLocals, setRow}
+use Rattle.ways.specs.State.{State, st, Way, size, done, missed, missedAt, withTrees, withLocals}
 use Rattle.ways.specs.Standing.{treeOn}
 use Rattle.ways.specs.Locals.{takeBy, topBy, topUp, getLocal}
 use Rattle.lower_laws.specs.Cases.{below-or}
@@ -31,7 +27,6 @@ use Rattle.step_laws.specs.Steps.{ifte-ind, held-ind, found-ind, sync-ind, put-
 use Rattle.moves.specs.Here.{on-holds}
 use Rattle.moves.specs.Locals.{load-same}
 use Rattle.keeps.specs.Fine.{Asks}
-use Rattle.reach.specs.Reach.{OwnAsked, Reachable}
 use Rattle.reach.specs.Ends.{Ends, one, entry-clear, local-clear, lower-gives}
 
 -- a present local at place j is empty, and its tree's entry has at most one frame
@@ -56,7 +51,6 @@ module _ (c : Config) (sz : Size (c .order)) (q : Request) (A : Asks c q Any) (s
   -- the entry of a present local's tree is reserved
   on-reserved : localAt ls j .present ≡ true → entryAt ts (treeOn (c .order) (localAt ls j)) .reserved ≡ true
   on-reserved p =
-      let t : ℕ = treeOn (c .order) (localAt ls j) in
       bit-true (entryAt ts (treeOn (c .order) (localAt ls j)) .reserved)
       (omega (arith, K .one (treeOn (c .order) (localAt ls j)) (K .inside j p), on-holds (c .order) (treeOn (c .order) (localAt ls j)) ls j p refl, bit-le (entryAt ts (treeOn (c .order) (localAt ls j)) .reserved)))
 

@@ -29,7 +29,7 @@ unfolding sum slot
 sum-slots ps g zero = refl
 sum-slots ps g (suc m) =
     rw (zero-add m)
-    (let s : ℕ = sum (localsOf ps) 0 m in
+    (
     let a : sum g (sum (localsOf ps) 0 m + 0) (localsOf ps m) ≡ sum (λ i. g (sum (localsOf ps) 0 m + i)) 0 (localsOf ps m) = sum-shift g (sum (localsOf ps) 0 m) 0 (localsOf ps m) in
     let b : sum g 0 (sum (localsOf ps) 0 m + localsOf ps m) ≡ sum g 0 (sum (localsOf ps) 0 m) + sum g (0 + sum (localsOf ps) 0 m) (localsOf ps m) = sum-add g 0 (sum (localsOf ps) 0 m) (localsOf ps m) in
     let e : 0 + sum (localsOf ps) 0 m ≡ sum (localsOf ps) 0 m + 0 = omega arith in

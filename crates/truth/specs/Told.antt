@@ -1,8 +1,8 @@
 -- What the call `statistics` tells of a state that passes the standing rules. Assumes nothing.
 use mathlib.Core.Path.{_≡_, refl, sym, ap, _∙_, subst}
-use mathlib.Core.Bool.{true, false}
+use mathlib.Core.Bool.{true}
 use mathlib.Core.List.{List, [], _∷_}
-use Prim.Native.Nat.{ℕ, zero, suc, _+_, _-_, _*_, _<_}
+use Prim.Native.Nat.{ℕ, zero, suc, _+_, _*_, _<_}
 use native.Mathlib.Nat.{not-suc-le-zero, le-of-suc-le-suc}
 use native.Mathlib.Omega.{arith}
 use lib.Dec.{eqb}
@@ -16,7 +16,7 @@ use Rattle.ways.specs.declared.Tally.{Tally}
 use Rattle.ways.specs.declared.Totals.{Totals}
 use Rattle.ways.specs.Standing.{standing}
 use Rattle.ways.specs.Calls.{outcomeOf}
-use Rattle.ways.specs.Statistics.{overClass, inUse, tally, tallies, totalFree, freeTrees, Report, reporting, statistics}
+use Rattle.ways.specs.Statistics.{overClass, inUse, tally, tallies, Report, reporting, statistics}
 use Rattle.ways.specs.Promises.{Words, StatisticsPromise}
 use Rattle.lower_laws.specs.Sum.{sum-none, sum-one, sum-add}
 use Rattle.word_laws.specs.Sizes.{Size, size-eleven}

@@ -3,14 +3,13 @@ use mathlib.Core.Path.{_≡_, refl, sym, ap, _∙_}
 use mathlib.Core.Bool.{Bool, true, false}
 use mathlib.Core.List.{List}
 use Prim.Native.Nat.{ℕ, zero, suc, _+_, _-_, _*_, _<_, _≤_}
-use native.Mathlib.Nat.{zero-add, suc-mul, mul-comm}
+use native.Mathlib.Nat.{zero-add, suc-mul}
 use native.Mathlib.Omega.{arith}
 use lib.Dec.{eqb}
 use lib.ListN.{length, getD}
 use Rattle.rules.specs.Base.{pick, sum}
-use Rattle.rules.specs.Words.{Config, treeFrames, treeRows, trees, localsOf, slot, localCount, localOf, entryAt, localAt}
+use Rattle.rules.specs.Words.{Config, treeFrames, trees, localsOf, slot, localCount, localOf, entryAt, localAt}
 use Rattle.rules.specs.Lower.{bit, held, clear}
-use Rattle.rules.specs.declared.Local.{Local}
 use Rattle.ways.specs.Standing.{treeOn}
 use Rattle.ways.specs.Statistics.{overClass, entryFree, localFree, reservedFree, inUse, tally, totalFree}
 use Rattle.lower_laws.specs.Sum.{sum-ext}
@@ -54,8 +53,8 @@ module _ (c : Config) (sz : Size (c .order)) (ts ls bs : List ℕ) (K : Kept c t
   tree-free : (t : ℕ) → t < trees c → entryAt ts t .free + shares (c .order) t ls ≡ clear (c .order) bs t
   tree-free t lt = omega (arith, K .sum t lt, clear-held (c .order) bs t (sz .least))
 
-  -- an absent local has nothing
-  own-free : (j : ℕ) → pick (localAt ls j .present) (localAt ls j .free) 0 ≡ localAt ls j .free
+  -- an absent local has no frames
+  pub own-free : (j : ℕ) → pick (localAt ls j .present) (localAt ls j .free) 0 ≡ localAt ls j .free
   unfolding localOf
   own-free j = go (localAt ls j .present) refl
     where
@@ -87,7 +86,6 @@ module _ (c : Config) (sz : Size (c .order)) (ts ls bs : List ℕ) (K : Kept c t
   -- that is the number of frames below F whose bit is 0
   pub clear-frames : sum (clear (c .order) bs) 0 (trees c) ≡ freeFrames bs (c .frames)
   clear-frames =
-      let n : ℕ = trees c * treeFrames (c .order) in
       let w : length bs * 64 ≡ trees c * treeFrames (c .order) = ap (λ (x : ℕ). x * 64) (K .bitWords) ∙ sym (count-bits (c .order) sz (c .frames)) in
       let le : c .frames ≤ trees c * treeFrames (c .order) = count-frames (c .order) sz (c .frames) in
       let d : c .frames + (length bs * 64 - c .frames) ≡ trees c * treeFrames (c .order) = omega arith in
