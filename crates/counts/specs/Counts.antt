@@ -1,5 +1,5 @@
 -- Looks and tries of a get under their bounds, on any state and for any request. Assumes nothing.
-use mathlib.Core.Path.{_≡_, refl, ap}
+use mathlib.Core.Path.{_≡_, refl, sym, ap, _∙_}
 use mathlib.Core.Bool.{Bool, true, false}
 use mathlib.Core.List.{List, [], _∷_}
 use Prim.Native.Nat.{ℕ, zero, suc, _+_, _-_, _*_, _/_, _≤_}
@@ -8,10 +8,11 @@ use lib.Dec.{ltb}
 use lib.ListN.{length, length-take}
 use borrow.Author.Tests.{ltb-false}
 use Rattle.rules.specs.Base.{pick, bitOf, Out, out}
-use Rattle.rules.specs.Words.{Config, treeFrames, treeRows, hugeOrder, trees, localsOf, slot, entryAt}
+use Rattle.rules.specs.Words.{Config, config, treeFrames, treeRows, hugeOrder, trees, localsOf, slot, entryAt}
 use Rattle.rules.specs.Entries.{entrySteal, entryReserve, entrySync}
 use Rattle.rules.specs.Locals.{localTake, localPut, localSwap, localClear, stealAny, demoteAny}
 use Rattle.rules.specs.Lower.{lowerGet}
+use Rattle.rules.specs.declared.Header.{Header}
 use Rattle.rules.specs.declared.Local.{Local}
 use Rattle.rules.specs.declared.Name.{Name}
 use Rattle.rules.specs.declared.Name.the-variants.{Any, Frame}
@@ -24,12 +25,16 @@ use Rattle.ways.specs.declared.Got.{Got}
 use Rattle.ways.specs.declared.Got.the-variants as Got
 use Rattle.ways.specs.declared.Walk.{Walk}
 use Rattle.ways.specs.declared.Walk.the-variants as Walk
-use Rattle.ways.specs.State.{State, Way, size, indexOf, done, missed, missedAt, stuck, orElse, withTrees, withLocals, withTry, withLook, putEntry, setRow, askLower}
+use Rattle.ways.specs.declared.Granted.{Granted}
+use Rattle.ways.specs.declared.Granted.the-variants as Granted
+use Rattle.ways.specs.declared.Reply.{Reply}
+use Rattle.ways.specs.State.{State, st, Way, size, indexOf, done, missed, missedAt, stuck, orElse, withTrees, withLocals, withTry, withLook, putEntry, setRow, askLower}
 use Rattle.ways.specs.Locals.{takeBy, topBy, topUp, getLocal, ownLocal, payFrom, stealLocal, demoteTo, moveFrom, demoteLocal}
 use Rattle.ways.specs.Walk.{place, isFull, rate, Candidate, rated, insert, admit, stealGlobal, reserved, reserveOrSteal, access, Sight, visit, walkSteps, walk, tryList, stopped, searchBest}
 use Rattle.ways.specs.Search.{near, roundedStart, searchFar, searchFrom, searchAndReserve, searchAndSteal}
 use Rattle.ways.specs.Get.{lastRoutes, getAt, startTree, getReserving, searchTrees, getAny, routes}
-use Rattle.ways.specs.Calls.{Told, fresh, refusal, close, frameOf, get}
+use Rattle.ways.specs.Calls.{Told, fresh, tellGet, refusal, close, frameOf, get}
+use Rattle.ways.specs.Promises.{Words, GetPromise}
 use Rattle.step_laws.specs.Steps.{ifte-ind, else-ind, from-ind}
 use Rattle.step_laws.specs.Walks.{tried-ind, visit-ind, sight-ind}
 use Rattle.step_laws.specs.Answers.{unless-ind, standing-ind}
@@ -320,3 +325,27 @@ get-refused-counts c q name t l b =
     standing-ind Zeros c (fresh t l b) _
     (λ _. unless-ind Zeros (refusal c q (frameOf name)) (fresh t l b) _ (λ n e _ _. (refl, refl)) (λ _. closed (routes c q name (fresh t l b))))
     (λ _ _ _. (refl, refl))
+
+-- ---- so do the answers that the promise of `get` allows
+
+told-counts : (g : Granted) (s : State) → (tellGet g s .looks ≡ s .looks) × (tellGet g s .tries ≡ s .tries)
+unfolding tellGet
+told-counts (Granted.Done f k) s = (refl, refl)
+told-counts (Granted.Refused x) s = (refl, refl)
+
+module _ (h : Header) (pairs : List ℕ) (q : Request) (s : Words) (r : Reply) (e : Words) where
+  reply-looks : (name : Name) → GetPromise h pairs name q s r e → r .looks ≡ get (config h pairs) q name (s .trees) (s .locals) (s .bits) .looks
+  reply-looks name p = sym (told-counts (r .granted) (st (e .trees) (e .locals) (e .bits) (r .looks) (r .tries)) .0) ∙ ap (λ (x : Told). x .looks) p
+
+  reply-tries : (name : Name) → GetPromise h pairs name q s r e → r .tries ≡ get (config h pairs) q name (s .trees) (s .locals) (s .bits) .tries
+  reply-tries name p = sym (told-counts (r .granted) (st (e .trees) (e .locals) (e .bits) (r .looks) (r .tries)) .1) ∙ ap (λ (x : Told). x .tries) p
+
+  pub promise-unnamed-counts : GetPromise h pairs Any q s r e → (r .looks ≤ trees (config h pairs) + near (trees (config h pairs)) - 1) × (r .tries ≤ r .looks + 3)
+  promise-unnamed-counts p =
+      let C = get-unnamed-counts (config h pairs) q (s .trees) (s .locals) (s .bits) in
+      (omega (arith, C .0, reply-looks Any p), omega (arith, C .1, reply-looks Any p, reply-tries Any p))
+
+  pub promise-named-counts : (f : ℕ) → GetPromise h pairs (Frame f) q s r e → (r .looks ≡ 0) × (r .tries ≤ 4)
+  promise-named-counts f p =
+      let C = get-named-counts (config h pairs) q f (s .trees) (s .locals) (s .bits) in
+      (omega (arith, C .0, reply-looks (Frame f) p), omega (arith, C .1, reply-tries (Frame f) p))

@@ -6,6 +6,7 @@ pub mod Ends
 pub mod Walks
 pub mod Own
 pub mod Lenders
--- the theorem
+-- the theorem, what is withheld, and the promise
 pub mod Memory
 pub mod Withheld
+pub mod Promise

@@ -3,7 +3,7 @@ use mathlib.Core.Path.{_≡_, refl, sym, _∙_, subst}
 use mathlib.Core.Bool.{Bool, true, false}
 use mathlib.Core.Logic.{_≢_}
 use mathlib.Core.List.{List, [], _∷_}
-use Prim.Native.Nat.{ℕ, zero, suc, _+_, _-_, _/_, _<_, _≤_}
+use Prim.Native.Nat.{ℕ, zero, suc, _+_, _-_, _<_, _≤_}
 use native.Mathlib.Nat.{not-suc-le-zero}
 use native.Mathlib.Omega.{arith}
 use lib.Dec.{ltb}
@@ -178,52 +178,43 @@ module _ (c : Config) (sz : Size (c .order)) (q : Request) (A : Asks c q Any) (s
         (access-gives c sz q A single ts ls bs K Reach ⊥ (takes-reach t (B .1 .0 .0)) t (B .1 .0 .0) w j (s .looks) (s .tries))
         (λ n i k. absurd n))
 
-    pub search-ends : (last i k : ℕ) → first ≤ last → Ends Reach (Passed last) ts ls bs (searchBest c q w j m (trees c) start first last (st ts ls bs i k))
+    pub search-ends : (last i k : ℕ) → Ends Reach (Passed (first + (last - first))) ts ls bs (searchBest c q w j m (trees c) start first last (st ts ls bs i k))
     unfolding searchBest walk stopped
-    search-ends last i k le =
-        sight-ind (Final last) (Ends Reach (Passed last) ts ls bs) (walk c q w j m (trees c) start first last [] (st ts ls bs i k)) stopped (tryList c q w j)
-        (steps-ind c q w j m (trees c) start Before After (Final last) visit-after
+    search-ends last i k =
+        sight-ind (Final (first + (last - first))) (Ends Reach (Passed (first + (last - first))) ts ls bs) (walk c q w j m (trees c) start first last [] (st ts ls bs i k)) stopped (tryList c q w j)
+        (steps-ind c q w j m (trees c) start Before After (Final (first + (last - first))) visit-after
         (λ i f k x a. a) (λ i x a. a) (λ i t x a. a) (λ i x a. a)
-        (last - first) first last (omega arith) (λ xs s b. b) [] (st ts ls bs i k) (refl, (tt, λ e x l h. absurd (omega arith))))
+        (last - first) first (first + (last - first)) refl (λ xs s b. b) [] (st ts ls bs i k) (refl, (tt, λ e x l h. absurd (omega arith))))
         (λ f k x a. a)
-        (λ x a. list-ends (x .found) (x .state) last a)
-        (λ t x a. list-ends (x .found) (x .state) last a)
+        (λ x a. list-ends (x .found) (x .state) (first + (last - first)) a)
+        (λ t x a. list-ends (x .found) (x .state) (first + (last - first)) a)
         (λ x a. a)
 
   -- ---- a walk 0 to n that rates every tree but an Invalid one comes to all trees
-  all-passed : (w : Walk) → Rates w → (start : ℕ) → Passed w 0 8 start 0 (omega arith) (trees c) → NoTree c ts (q .class)
+  all-passed : (w : Walk) → Rates w → (start : ℕ) → Passed w 0 8 start 0 (omega arith) (0 + (trees c - 0)) → NoTree c ts (q .class)
   all-passed w rs start P t lt u pos =
       let v = every-tree (trees c) start t lt in
       rate-none c q (entryAt ts t) w rs
-      (subst (λ (x : ℕ). rate c q w (entryAt ts x) ≡ 0) (v .1 .1) (P (v .0) (omega arith) (v .1 .0)))
+      (subst (λ (x : ℕ). rate c q w (entryAt ts x) ≡ 0) (v .1 .1) (P (v .0) (omega arith) (omega (arith, v .1 .0))))
       u (omega (arith, one c sz q A single ts ls bs K))
 
   pub searchAndSteal-ends : (start i k : ℕ) → Ends Reach (NoTree c ts (q .class)) ts ls bs (searchAndSteal c q start (st ts ls bs i k))
   unfolding searchAndSteal
   searchAndSteal-ends start i k =
-      ends-map Reach ts ls bs (Passed Walk.Stealing 0 8 start 0 (omega arith) (trees c)) (NoTree c ts (q .class)) (searchBest c q Walk.Stealing 0 8 (trees c) start 0 (trees c) (st ts ls bs i k)) (all-passed Walk.Stealing tt start)
-      (search-ends Walk.Stealing 0 8 start 0 (omega arith) (trees c) i k (omega arith))
+      ends-map Reach ts ls bs (Passed Walk.Stealing 0 8 start 0 (omega arith) (0 + (trees c - 0))) (NoTree c ts (q .class)) (searchBest c q Walk.Stealing 0 8 (trees c) start 0 (trees c) (st ts ls bs i k)) (all-passed Walk.Stealing tt start)
+      (search-ends Walk.Stealing 0 8 start 0 (omega arith) (trees c) i k)
 
   far-ends : (j start i k : ℕ) → Ends Reach (NoTree c ts (q .class)) ts ls bs (searchFar c q j start (st ts ls bs i k))
   unfolding searchFar
   far-ends j start i k =
-      ends-map Reach ts ls bs (Passed Walk.Far j 8 start 0 (omega arith) (trees c)) (NoTree c ts (q .class)) (searchBest c q Walk.Far j 8 (trees c) start 0 (trees c) (st ts ls bs i k)) (all-passed Walk.Far tt start)
-      (search-ends Walk.Far j 8 start 0 (omega arith) (trees c) i k (omega arith))
-
-  -- near is at least 1
-  near-some : (n : ℕ) → 1 ≤ near n
-  unfolding near
-  near-some n = go (ltb (n / 16) 4) refl
-    where
-      go : (b : Bool) → ltb (n / 16) 4 ≡ b → 1 ≤ pick b 4 (n / 16)
-      go true e = omega arith
-      go false e = (let h : 4 ≤ n / 16 = ltb-false _ _ e in omega arith)
+      ends-map Reach ts ls bs (Passed Walk.Far j 8 start 0 (omega arith) (0 + (trees c - 0))) (NoTree c ts (q .class)) (searchBest c q Walk.Far j 8 (trees c) start 0 (trees c) (st ts ls bs i k)) (all-passed Walk.Far tt start)
+      (search-ends Walk.Far j 8 start 0 (omega arith) (trees c) i k)
 
   pub searchAndReserve-ends : (j start i k : ℕ) → Ends Reach (NoTree c ts (q .class)) ts ls bs (searchAndReserve c q j start (st ts ls bs i k))
   unfolding searchAndReserve searchFrom
   searchAndReserve-ends j start i k =
       ifte-ind (Ends Reach (NoTree c ts (q .class)) ts ls bs) (ltb (q .order) (hugeOrder (c .order))) _ _
-      (λ _. else-ends Reach ts ls bs (Passed Walk.Near j 3 (roundedStart (trees c) start) 1 (omega arith) (near (trees c))) (NoTree c ts (q .class)) (searchBest c q Walk.Near j 3 (trees c) (roundedStart (trees c) start) 1 (near (trees c)) (st ts ls bs i k)) (searchFar c q j (roundedStart (trees c) start))
-      (search-ends Walk.Near j 3 (roundedStart (trees c) start) 1 (omega arith) (near (trees c)) i k (near-some (trees c)))
+      (λ _. else-ends Reach ts ls bs (Passed Walk.Near j 3 (roundedStart (trees c) start) 1 (omega arith) (1 + (near (trees c) - 1))) (NoTree c ts (q .class)) (searchBest c q Walk.Near j 3 (trees c) (roundedStart (trees c) start) 1 (near (trees c)) (st ts ls bs i k)) (searchFar c q j (roundedStart (trees c) start))
+      (search-ends Walk.Near j 3 (roundedStart (trees c) start) 1 (omega arith) (near (trees c)) i k)
       (λ _ l t. far-ends j (roundedStart (trees c) start) l t))
       (λ _. far-ends j (roundedStart (trees c) start) i k)
