@@ -1,0 +1,4 @@
+-- steps with any answer
+pub mod Ways
+-- the bounds
+pub mod Counts

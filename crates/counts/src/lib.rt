@@ -1,0 +1,1 @@
+// The counts of a get under their bounds: in specs/. No function.

@@ -1,0 +1,12 @@
+-- what a get of one frame reaches
+pub mod Reach
+-- where each route ends
+pub mod Places
+pub mod Ends
+pub mod Walks
+pub mod Own
+pub mod Lenders
+-- the theorem, what is withheld, and the promise
+pub mod Memory
+pub mod Withheld
+pub mod Promise

@@ -1,0 +1,57 @@
+-- The same of every answer that the promise of `get` allows. Assumes nothing.
+use mathlib.Core.Path.{_≡_, refl, sym, ap, _∙_}
+use mathlib.Core.Bool.{true}
+use mathlib.Core.List.{List}
+use Prim.Native.Nat.{ℕ}
+use native.Mathlib.Omega.{arith}
+use Rattle.rules.specs.Words.{config}
+use Rattle.rules.specs.declared.Header.{Header}
+use Rattle.rules.specs.declared.Name.the-variants.{Any}
+use Rattle.rules.specs.declared.Request.{Request}
+use Rattle.ways.specs.declared.Refusal.{Refusal}
+use Rattle.ways.specs.declared.Refusal.the-variants as Refusal
+use Rattle.ways.specs.declared.Granted.{Granted}
+use Rattle.ways.specs.declared.Granted.the-variants as Granted
+use Rattle.ways.specs.declared.Reply.{Reply}
+use Rattle.ways.specs.State.{State, st}
+use Rattle.ways.specs.Standing.{standing}
+use Rattle.ways.specs.Calls.{Told, numberOf, tellGet, refusal}
+use Rattle.ways.specs.Promises.{Words, GetPromise}
+use Rattle.word_laws.specs.Sizes.{size-eleven}
+use Rattle.hand.specs.Hand.{Kept}
+use Rattle.reach.specs.Reach.{Unreachable}
+use Rattle.reach.specs.Memory.{memory-exactly}
+
+-- 7 is Memory's number alone
+is-memory : (x : Refusal) → numberOf x ≡ 7 → x ≡ Refusal.Memory
+unfolding numberOf
+is-memory Refusal.Broken e = absurd (omega arith)
+is-memory Refusal.Order e = absurd (omega arith)
+is-memory Refusal.Bounds e = absurd (omega arith)
+is-memory Refusal.Misaligned e = absurd (omega arith)
+is-memory Refusal.Class e = absurd (omega arith)
+is-memory Refusal.Local e = absurd (omega arith)
+is-memory Refusal.Memory e = refl
+is-memory Refusal.NotHeld e = absurd (omega arith)
+is-memory Refusal.Stuck e = absurd (omega arith)
+is-memory Refusal.Config e = absurd (omega arith)
+is-memory Refusal.Rows e = absurd (omega arith)
+
+told-memory : (g : Granted) (s : State) → tellGet g s .number ≡ 7 → g ≡ Granted.Refused Refusal.Memory
+unfolding tellGet
+told-memory (Granted.Done f k) s e = absurd (omega arith)
+told-memory (Granted.Refused x) s e = ap Granted.Refused (is-memory x e)
+
+memory-told : (g : Granted) (s : State) → g ≡ Granted.Refused Refusal.Memory → tellGet g s .number ≡ 7
+unfolding tellGet numberOf
+memory-told g s e = rw e
+
+-- the code's get of one frame with no name answers Memory exactly if nothing reachable has a free frame
+pub promise-memory : (h : Header) (pairs : List ℕ) (q : Request) (s : Words) (r : Reply) (e : Words) → GetPromise h pairs Any q s r e
+    → standing (config h pairs) (s .trees) (s .locals) (s .bits) ≡ true → Kept (config h pairs) (s .trees) (s .locals) (s .bits) → q .order ≡ 0 → refusal (config h pairs) q 0 ≡ 0
+    → (r .granted ≡ Granted.Refused Refusal.Memory → Unreachable (config h pairs) (s .trees) (s .locals) (q .class) (q .local))
+    × (Unreachable (config h pairs) (s .trees) (s .locals) (q .class) (q .local) → r .granted ≡ Granted.Refused Refusal.Memory)
+promise-memory h pairs q s r e p S K single fit =
+    let after : State = st (e .trees) (e .locals) (e .bits) (r .looks) (r .tries) in
+    let M = memory-exactly (config h pairs) size-eleven (s .trees) (s .locals) (s .bits) S K q single fit in
+    ((λ g. M .0 (sym (ap (λ (x : Told). x .number) p) ∙ memory-told (r .granted) after g)), (λ U. told-memory (r .granted) after (ap (λ (x : Told). x .number) p ∙ M .1 U)))
