@@ -1,7 +1,6 @@
 -- what a get of one frame reaches
 pub mod Reach
 -- where each route ends
-pub mod Places
 pub mod Ends
 pub mod Walks
 pub mod Own

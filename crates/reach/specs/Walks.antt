@@ -34,7 +34,7 @@ use Rattle.step_laws.specs.Steps.{ifte-ind}
 use Rattle.step_laws.specs.Walks.{place-lt, Every, every-admit, tried-ind, visit-ind, sight-ind, steps-ind}
 use Rattle.keeps.specs.Fine.{Asks}
 use Rattle.reach.specs.Reach.{Reachable}
-use Rattle.reach.specs.Places.{every-tree}
+use Rattle.walk_laws.specs.Places.{every-tree}
 use Rattle.reach.specs.Ends.{Ends, ends-map, else-ends, Takes, one, access-gives}
 
 -- a list has no tree
