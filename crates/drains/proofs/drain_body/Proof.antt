@@ -8,7 +8,6 @@ use borrow.Author.Tests.{not-true, not-false}
 use Rattle.rules.specs.Words.{config}
 use Rattle.ways.specs.Calls.{numberOf, outcomeOf, fresh, onDrained, drainClasses, closeDrain}
 use Rattle.drains.specs.Loops.{classes-end, classes-more}
-use borrow.Author.Needs.{needs}
 use Rattle.drains.proofs.drain_body.Statement.{statement}
 use Rattle.drains.proofs.drain_body.Tie as tie
 

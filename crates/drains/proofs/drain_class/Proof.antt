@@ -9,7 +9,6 @@ use borrow.Author.Tests.{not-true, not-false}
 use Rattle.rules.specs.Words.{config, slot}
 use Rattle.ways.specs.Calls.{fresh, drainLocals, onDrained}
 use Rattle.drains.specs.Loops.{locals-end, locals-more}
-use borrow.Author.Needs.{needs}
 use Rattle.drains.proofs.drain_class.Statement.{statement}
 use Rattle.drains.proofs.drain_class.Tie as tie
 

@@ -6,7 +6,6 @@ use lib.ListN.{length}
 use borrow.Author.Needs.{needs}
 use Rattle.ways.specs.Calls.{freshWord}
 use Rattle.starts.specs.Fill.{Written, written-more, written-end}
-use borrow.Author.Needs.{needs}
 use Rattle.starts.proofs.fill_bits.Statement.{statement}
 use Rattle.starts.proofs.fill_bits.Tie as tie
 

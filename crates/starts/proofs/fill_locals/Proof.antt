@@ -5,7 +5,6 @@ use native.Mathlib.Omega.{arith}
 use lib.ListN.{length}
 use borrow.Author.Needs.{needs}
 use Rattle.starts.specs.Fill.{Written, written-more, written-end}
-use borrow.Author.Needs.{needs}
 use Rattle.starts.proofs.fill_locals.Statement.{statement}
 use Rattle.starts.proofs.fill_locals.Tie as tie
 

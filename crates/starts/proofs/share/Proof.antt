@@ -2,7 +2,6 @@
 use borrow.Author.Needs.{needs}
 use Rattle.starts.specs.Fill.{part-lt, share-none, share-all, share-left}
 use native.Mathlib.Omega.{arith}
-use borrow.Author.Needs.{needs}
 use Rattle.starts.proofs.share.Statement.{statement}
 use Rattle.starts.proofs.share.Tie as tie
 
