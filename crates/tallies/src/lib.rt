@@ -6,9 +6,11 @@ ghost use mathlib.Core.Path.{_≡_};
 ghost use mathlib.Core.List.{List};
 ghost use Prim.Native.Nat.{ℕ, _+_, _-_, _*_, _^_, _<_, _≤_};
 ghost use lib.Dec.{eqb};
+ghost use lib.ListN.{length};
 ghost use Rattle.rules.specs.Base.{pick, sum};
 ghost use Rattle.rules.specs.Words.{config, localCount};
 ghost use Rattle.ways.specs.Statistics.{localFree, reservedFree, inUse, tally, totalFree, freeTrees};
+ghost use Rattle.tallies.specs.Rows.{rowsOf, rowList};
 ghost use Rattle.tallies.specs.Sums.{freeAt, allocAt, treeAt, heldAt, entriesFree, entriesWhole, localsFree, localsWhole};
 
 // Of the entries of a class: their free, 2,048 less their free, their number.
@@ -171,4 +173,48 @@ pub fn totals(h: Header, table: &[u32; 64], trees: &[u32], locals: &[u64]) -> Wh
         free: a.free + b.free,
         trees: a.trees + b.trees,
     }
+}
+
+// The eight rows, one for each class.
+pub struct Rows {
+    pub r0: Tally,
+    pub r1: Tally,
+    pub r2: Tally,
+    pub r3: Tally,
+    pub r4: Tally,
+    pub r5: Tally,
+    pub r6: Tally,
+    pub r7: Tally,
+}
+
+// The rows of all classes.
+pub fn all_rows(h: Header, table: &[u32; 64], trees: &[u32], locals: &[u64]) -> Rows
+    requires { ⌜ h .frames ≤ 2 ^ 21 ⌝ }
+    ensures { λ r. ⌜ r ≡ rowsOf (tally (config h (now (table .entry))) (now (trees .entry)) (now (locals .entry))) ⌝ }
+{
+    Rows {
+        r0: class_row(h, table, trees, locals, 0),
+        r1: class_row(h, table, trees, locals, 1),
+        r2: class_row(h, table, trees, locals, 2),
+        r3: class_row(h, table, trees, locals, 3),
+        r4: class_row(h, table, trees, locals, 4),
+        r5: class_row(h, table, trees, locals, 5),
+        r6: class_row(h, table, trees, locals, 6),
+        r7: class_row(h, table, trees, locals, 7),
+    }
+}
+
+// The lent rows are these: proved by a walk of the code, as every function over a lent slice of structs is.
+pub fn set_rows(rows: &mut [Tally], all: Rows)
+    requires { ⌜ length (now rows) ≡ 8 ⌝ }
+    ensures { λ _. ⌜ now (rows .exit) ≡ rowList all ⌝ }
+{
+    rows[0] = all.r0;
+    rows[1] = all.r1;
+    rows[2] = all.r2;
+    rows[3] = all.r3;
+    rows[4] = all.r4;
+    rows[5] = all.r5;
+    rows[6] = all.r6;
+    rows[7] = all.r7;
 }
