@@ -1,0 +1,60 @@
+-- Laws of the loops: the locals of a class in turn, the classes in turn. Assumes nothing.
+use mathlib.Core.Path.{_≡_, refl}
+use mathlib.Core.Bool.{Bool, true, false}
+use mathlib.Core.List.{List}
+use Prim.Native.Nat.{ℕ, zero, suc, _+_, _-_, _<_, _≤_}
+use native.Mathlib.Omega.{arith}
+use Rattle.rules.specs.Base.{ifte, Out, out}
+use Rattle.rules.specs.Words.{Config, localsOf, slot}
+use Rattle.rules.specs.Locals.{localClear}
+use Rattle.rules.specs.declared.Local.{Local}
+use Rattle.rules.specs.declared.Took.{Took}
+use Rattle.rules.specs.declared.Took.the-variants as Took
+use Rattle.ways.specs.State.{State, onTook, onSwap, unreserve, unreserveLocal}
+use Rattle.ways.specs.Calls.{drainLocals, onDrained, drainClasses}
+
+-- the local at place j, of class k, becomes absent and its reservation is returned; false where that is stuck
+unfoldable pub drainOne : Config → ℕ → ℕ → State → Out Bool State
+drainOne c k j s = onSwap (localClear (s .locals) j) s (λ l s1. unreserveLocal c l k s1 (out true) (out false))
+
+-- what follows a return that is not stuck
+took-next : (x : Out Took (List ℕ)) (s : State) (next : State → Out Bool State)
+    → onTook x s (λ e. next) (out false) ≡ onDrained (onTook x s (λ e. out true) (out false)) next
+unfolding onTook onDrained
+took-next (out (Took.Yes e) t) s next = refl
+took-next (out Took.No t) s next = refl
+
+-- the same where there may be nothing to return
+if-next : (b : Bool) (x y : Out Bool State) (s : State) (next : State → Out Bool State) → x ≡ onDrained y next
+    → ifte b (λ _. x) (λ _. next s) ≡ onDrained (ifte b (λ _. y) (λ _. out true s)) next
+unfolding ifte onDrained
+if-next true x y s next e = e
+if-next false x y s next e = refl
+
+local-next : (c : Config) (l : Local) (k : ℕ) (s : State) (next : State → Out Bool State)
+    → unreserveLocal c l k s next (out false) ≡ onDrained (unreserveLocal c l k s (out true) (out false)) next
+unfolding unreserveLocal unreserve
+local-next c l k s next = if-next (l .present) _ _ s next (took-next _ s next)
+
+module _ (c : Config) (last : ℕ) (s : State) where
+  -- no local is left
+  pub locals-end : (k i : ℕ) → last ≤ i → drainLocals (last - i) c k i s ≡ out true s
+  unfolding drainLocals
+  locals-end k i h = let e : last - i ≡ 0 = omega arith in rw e
+
+  -- one local, then the next ones
+  pub locals-more : (k i : ℕ) → i < last
+      → drainLocals (last - i) c k i s ≡ onDrained (drainOne c k (slot (c .places) k i) s) (drainLocals (last - (i + 1)) c k (i + 1))
+  unfolding drainLocals drainOne onSwap localClear
+  locals-more k i h = let e : last - i ≡ suc (last - (i + 1)) = omega arith in rw e (local-next c _ k _ _)
+
+  -- no class is left
+  pub classes-end : (k : ℕ) → last ≤ k → drainClasses (last - k) c k s ≡ out true s
+  unfolding drainClasses
+  classes-end k h = let e : last - k ≡ 0 = omega arith in rw e
+
+  -- one class, then the next ones
+  pub classes-more : (k : ℕ) → k < last
+      → drainClasses (last - k) c k s ≡ onDrained (drainLocals (localsOf (c .places) k) c k 0 s) (drainClasses (last - (k + 1)) c (k + 1))
+  unfolding drainClasses
+  classes-more k h = let e : last - k ≡ suc (last - (k + 1)) = omega arith in rw e

@@ -1,0 +1,2 @@
+-- laws of the argument tests; the definitions are in `ways`
+pub mod Checked

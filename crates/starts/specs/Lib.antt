@@ -1,0 +1,2 @@
+-- laws that the loops go by; the definitions are in `ways`
+pub mod Fill
