@@ -3,13 +3,12 @@ use rules::Header;
 use rules::Local;
 use ways::Tally;
 ghost use mathlib.Core.Path.{_≡_};
-ghost use mathlib.Core.List.{List};
-ghost use Prim.Native.Nat.{ℕ, _+_, _-_, _*_, _^_, _<_, _≤_};
+ghost use Prim.Native.Nat.{_+_, _-_, _*_, _^_, _<_, _≤_};
 ghost use lib.Dec.{eqb};
 ghost use lib.ListN.{length};
 ghost use Rattle.rules.specs.Base.{pick, sum};
-ghost use Rattle.rules.specs.Words.{config, localCount};
-ghost use Rattle.ways.specs.Statistics.{localFree, reservedFree, inUse, tally, tallies, totalFree, freeTrees};
+ghost use Rattle.rules.specs.Words.{config};
+ghost use Rattle.ways.specs.Statistics.{localFree, reservedFree, tally, tallies, totalFree, freeTrees};
 ghost use Rattle.tallies.specs.Rows.{rowsOf};
 ghost use Rattle.tallies.specs.Sums.{freeAt, allocAt, treeAt, heldAt, entriesFree, entriesWhole, localsFree, localsWhole};
 
