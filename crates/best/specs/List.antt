@@ -1,4 +1,4 @@
--- The list of the best as the code has it: words, each a rating times 2^32 plus a tree, 0 past the last. Assumes nothing.
+-- The list of the best as the code has it: words, each a rating with its fullness, times 2^32, plus a tree, 0 past the last. Assumes nothing.
 use mathlib.Core.Path.{_≡_, refl, subst}
 use mathlib.Core.Bool.{Bool, true, false}
 use mathlib.Core.List.{List, [], _∷_}

@@ -73,6 +73,7 @@ syncOf t m = pick (t .reserved) (pick (ltb m (t .free)) (Took.Yes (entry 0 true 
 
 -- ---- the same on the lent tree words, at tree t
 
+-- entry put at tree t
 unfoldable pub entryPut : Config → List ℕ → ℕ → ℕ → List ℕ
 entryPut c ts t n = set ts t (treeWord (putOf c (entryAt ts t) n))
 
@@ -81,23 +82,29 @@ unfoldable pub keepTook : List ℕ → ℕ → Took → Out Took (List ℕ)
 keepTook ts t (Took.Yes e) = out (Took.Yes e) (set ts t (treeWord e))
 keepTook ts t Took.No = out Took.No ts
 
+-- steal from tree t
 unfoldable pub entrySteal : Config → List ℕ → ℕ → ℕ → ℕ → Out Took (List ℕ)
 entrySteal c ts t k n = keepTook ts t (stealOf c (entryAt ts t) k n)
 
+-- unreserve tree t
 unfoldable pub entryUnreserve : Config → List ℕ → ℕ → ℕ → ℕ → Out Took (List ℕ)
 entryUnreserve c ts t k n = keepTook ts t (unreserveOf c (entryAt ts t) k n)
 
+-- the same of a reserve or steal
 unfoldable pub keepTaken : List ℕ → ℕ → Taken → Out Taken (List ℕ)
 keepTaken ts t (Taken.Part e) = out (Taken.Part e) (set ts t (treeWord e))
 keepTaken ts t (Taken.Whole e n) = out (Taken.Whole e n) (set ts t (treeWord e))
 keepTaken ts t Taken.No = out Taken.No ts
 
+-- reserve or steal tree t
 unfoldable pub entryReserve : Config → List ℕ → ℕ → ℕ → ℕ → Out Taken (List ℕ)
 entryReserve c ts t k n = keepTaken ts t (reserveOf c (entryAt ts t) k n)
 
+-- the same of a sync: the answer is the free that the entry had
 unfoldable pub keepSync : List ℕ → ℕ → Tree → Took → Out Synced (List ℕ)
 keepSync ts t old (Took.Yes e) = out (Synced.Free (old .free)) (set ts t (treeWord e))
 keepSync ts t old Took.No = out Synced.Nothing ts
 
+-- sync with tree t
 unfoldable pub entrySync : List ℕ → ℕ → ℕ → Out Synced (List ℕ)
 entrySync ts t m = keepSync ts t (entryAt ts t) (syncOf (entryAt ts t) m)

@@ -73,7 +73,7 @@ localOf w = record { row = w % 2 ^ 44; free = w / 2 ^ 44 % 2 ^ 19; present = eqb
 unfoldable pub localWord : Local → ℕ
 localWord l = l .row % 2 ^ 44 + 2 ^ 44 * (l .free % 2 ^ 19) + 2 ^ 63 * bitOf (l .present)
 
--- a tree's word with these fields
+-- an entry with these fields: free, reserved, class
 abbrev pub entry : ℕ → Bool → ℕ → Tree
 entry f r k = record { free = f; reserved = r; class = k }
 

@@ -42,6 +42,7 @@ numberOf Refusal.Stuck = 9
 numberOf Refusal.Config = 10
 numberOf Refusal.Rows = 11
 
+-- the number of an outcome
 unfoldable pub outcomeOf : Outcome → ℕ
 outcomeOf Outcome.Done = 0
 outcomeOf (Outcome.Refused x) = numberOf x
@@ -58,6 +59,7 @@ pub record Told : Type 0 where
   pub locals : List ℕ
   pub bits : List ℕ
 
+-- number n, frame f, class k, with the counts and words of a state
 abbrev pub telling : ℕ → ℕ → ℕ → State → Told
 telling n f k s = record { number = n; frame = f; class = k; looks = s .looks; tries = s .tries; trees = s .trees; locals = s .locals; bits = s .bits }
 
@@ -119,6 +121,7 @@ unfoldable pub frameOf : Name → ℕ
 frameOf Any = 0
 frameOf (Frame f) = f
 
+-- get: Broken, refusals 2 to 6, then the routes
 unfoldable pub get : Config → Request → Name → List ℕ → List ℕ → List ℕ → Told
 get c q name t l b =
     ifStanding c (fresh t l b)
@@ -140,6 +143,7 @@ unfoldable pub onGiven : Out Bool (List ℕ) → State → (State → State) →
 onGiven (out true b) s next = telling 0 0 0 (next (withBits s b))
 onGiven (out false b) s next = telling 8 0 0 (withBits s b)
 
+-- put: Broken, refusals 2 to 6, then the lower and the local or entry
 unfoldable pub put : Config → Request → ℕ → List ℕ → List ℕ → List ℕ → Told
 put c q f t l b =
     ifStanding c (fresh t l b)
@@ -170,6 +174,7 @@ unfoldable pub closeDrain : Out Bool State → Told
 closeDrain (out true s) = telling 0 0 0 s
 closeDrain (out false s) = telling 9 0 0 s
 
+-- drain: Broken, then every reservation returned
 unfoldable pub drain : Config → List ℕ → List ℕ → List ℕ → Told
 drain c t l b = ifStanding c (fresh t l b) (λ s. closeDrain (drainClasses 8 c 0 s))
 

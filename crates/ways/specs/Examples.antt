@@ -16,6 +16,9 @@ use Rattle.rules.specs.declared.Name.the-variants.{Any, Frame}
 use Rattle.rules.specs.declared.Given.{Given}
 use Rattle.rules.specs.declared.Given.the-variants as Given
 use Rattle.rules.specs.declared.Request.{Request}
+use Rattle.ways.specs.declared.Tally.{Tally}
+use Rattle.ways.specs.Statistics
+use Rattle.ways.specs.Statistics.{Report, overClass, entryFree, localFree, entryAlloc, reservedFree, inUse, tally, totalFree, freeTrees, statistics}
 use Rattle.ways.specs.State.{State, indexOf, done, missed, missedAt, stuck, orElse, withTrees, withLocals, withBits, withTry, withLook, onTook, onTaken, onSync, onHeld, onPut, onSwap, onFound, putEntry, setRow, askLower, unreserve, unreserveLocal}
 use Rattle.ways.specs.Locals.{takeBy, topBy, topUp, getLocal, ownLocal, payFrom, stealLocal, demoteTo, moveFrom, demoteLocal}
 use Rattle.ways.specs.Walk.{place, ratedIn, rate, insert, admit, stealGlobal, reserved, reserveOrSteal, access, tried, offered, visit, onSight, walkSteps, walk, tryList, stopped, searchBest}
@@ -45,11 +48,11 @@ tableT f n d =
       pairs = match255 ∷ demote ∷ replicate 6 0 ++ steal ∷ match255 ∷ replicate 54 0;
     }
 
--- a get (order, class, local, frame), a put, a start, a drain; or words stored by hand: tree t's entry, the local j, the words of the tree; or all words
+-- a get (order, class, local, frame), a put, a start (all free, all held), a drain; or words stored by hand: tree t's entry, the local j, the words of the tree; or all words
 pub data Call : Type 0 where
   asks : ℕ → ℕ → Given → Name → Call
   gives : ℕ → ℕ → Given → ℕ → Call
-  starts drains : Call
+  starts startsHeld drains : Call
   holds : ℕ → ℕ → ℕ → ℕ → List ℕ → Call
   stands : List ℕ → List ℕ → List ℕ → Call
 
@@ -76,6 +79,7 @@ call c r (asks o k l f) = get c (record { order = o; class = k; local = l }) f (
 call c r (gives o k l f) = put c (record { order = o; class = k; local = l }) f (r .trees) (r .locals) (r .bits)
 call c r (stands ts ls bs) = telling 0 0 0 (fresh ts ls bs)
 call c r drains = drain c (r .trees) (r .locals) (r .bits)
+call c r startsHeld = start c false (r .trees) (r .locals) (r .bits)
 call c r starts = start c true (r .trees) (r .locals) (r .bits)
 call c r (holds t e j l xs) = telling 0 0 0 (fresh (set (r .trees) t e) (set (r .locals) j l) (paste (r .bits) (treeRows (c .order) * t) xs))
 
@@ -165,6 +169,17 @@ tableT5 f =
       pairs = 0x05000003 ∷ demote ∷ replicate 6 0 ++ steal ∷ match255 ∷ replicate 54 0;
     }
 
+-- three classes with a local each, default 1: (0,0) as given, (1,1), (2,2) Match 255; (0,1) Demote; (0,2), (1,0) Steal
+abbrev pub three : ℕ → ℕ → Config
+three f own =
+    record {
+      order = 11;
+      frames = f;
+      default = 1;
+      places = 2 ∷ 2 ∷ 2 ∷ replicate 5 0;
+      pairs = own ∷ demote ∷ steal ∷ replicate 5 0 ++ steal ∷ match255 ∷ replicate 8 0 ++ match255 ∷ replicate 45 0;
+    }
+
 -- words in which every eighth frame is held: 1,792 frames of a tree are free, and no aligned block of eight
 abbrev pub combed : ℕ → List ℕ
 combed n = replicate n 0x0101010101010101
@@ -206,6 +221,19 @@ further =
     ∷ record { of = tableT5 6144; calls = stands (1792 ∷ 1792 ∷ 1792 ∷ []) (0 ∷ 0 ∷ []) (combed 96) ∷ local0 3 0 ∷ []; figures = all5; wants = 7 ∷ 0 ∷ 0 ∷ 6 ∷ 6 ∷ [] }
     -- a full list admits no equal: the ninth tree, the only one with a block, is not tried
     ∷ record { of = tableT5 18432; calls = stands (replicate 4 1792 ++ 2047 ∷ replicate 4 1792) (0 ∷ 0 ∷ []) (combed 128 ++ 1 ∷ replicate 31 0 ++ combed 128) ∷ anyone 3 0 ∷ []; figures = all5; wants = 7 ∷ 0 ∷ 0 ∷ 9 ∷ 8 ∷ [] }
+    -- a present own reservation that failed gives its tree as the start: 12, rounded to 8
+    ∷ record { of = tableT 32768 2 1; calls = holds 12 0x10000000 0 0x8000000000000180 (heldWords 32) ∷ local0 0 0 ∷ []; figures = all5; wants = 0 ∷ 14336 ∷ 0 ∷ 3 ∷ 1 ∷ [] }
+    -- the start tree is (n / locals) × the local: 8
+    ∷ record { of = tableT 32768 2 1; calls = asks 0 0 (Given.Local 1) Any ∷ []; figures = all5; wants = 0 ∷ 14336 ∷ 0 ∷ 3 ∷ 1 ∷ [] }
+    -- the list: Match before Demote before Steal; of two Demotes the fully free one
+    ∷ record { of = three 8192 0x05000003; calls = stands (0x400007ff ∷ 0x200007ff ∷ 0x7ff ∷ 0x20000800 ∷ []) (replicate 3 0) (1 ∷ replicate 31 0 ++ 1 ∷ replicate 31 0 ++ 1 ∷ replicate 63 0) ∷ anyone 0 0 ∷ []; figures = all5; wants = 0 ∷ 4097 ∷ 0 ∷ 4 ∷ 1 ∷ [] }
+    ∷ record { of = three 8192 0x05000003; calls = stands (0x400007ff ∷ 0x200007ff ∷ 0x400007ff ∷ 0x20000800 ∷ []) (replicate 3 0) (1 ∷ replicate 31 0 ++ 1 ∷ replicate 31 0 ++ 1 ∷ replicate 63 0) ∷ anyone 0 0 ∷ []; figures = all5; wants = 0 ∷ 6144 ∷ 0 ∷ 4 ∷ 1 ∷ [] }
+    -- the cut is compared with the tree's own free: 2,040 is rated high, 1,000 low
+    ∷ record { of = three 8192 (3 + 4 * 2000 + 65536 * 1 + 16777216 * 200); calls = stands (1000 ∷ 2040 ∷ 0x40000000 ∷ 0x40000000 ∷ []) (replicate 3 0) (heldWords 16 ++ 0xffffff ∷ replicate 15 0 ++ 0xff ∷ replicate 31 0 ++ heldWords 64) ∷ anyone 0 0 ∷ []; figures = all5; wants = 0 ∷ 2056 ∷ 0 ∷ 4 ∷ 1 ∷ [] }
+    -- all held, then one frame given back
+    ∷ record { of = tableT 8192 1 1; calls = startsHeld ∷ gives 0 1 Given.Nothing 5 ∷ []; figures = number ∷ tree 0 ∷ tree 1 ∷ []; wants = 0 ∷ 0x20000001 ∷ 0x20000000 ∷ [] }
+    -- a drain of two classes
+    ∷ record { of = tableT 8192 1 1; calls = local0 0 0 ∷ local0 0 1 ∷ drains ∷ []; figures = number ∷ tree 0 ∷ tree 1 ∷ tree 3 ∷ local 0 ∷ local 1 ∷ []; wants = 0 ∷ 0x20000800 ∷ 0x200007ff ∷ 0x7ff ∷ 0 ∷ 0 ∷ [] }
     -- a drain returns E1's reservation
     ∷ record { of = tableT 16384 2 1; calls = e1 ∷ drains ∷ []; figures = number ∷ tree 7 ∷ local 0 ∷ []; wants = 0 ∷ 0x7FF ∷ 0 ∷ [] }
     -- a put of a free frame is NotHeld
@@ -225,10 +253,37 @@ further =
     ∷ record { of = tableT 2048 1 1; calls = stands (0x10000000 ∷ []) (0 ∷ 0x8080000000000000 ∷ []) (replicate 32 0) ∷ anyone 0 1 ∷ []; figures = number ∷ []; wants = 1 ∷ [] }
     ∷ []
 
--- E1 to E12, and the further cases, come out as given
-pub claims : (answered examples ≡ given examples) × (answered further ≡ given further)
-unfolding ifte allBelow sum listed firstIn treeCount configured localsOf slot localCount treeOf treeWord localOf localWord pairOf kindOf cutOf lowOf highOf policyOf policy kindAt good pairFormed pairAccepted tableFormed rulesAt tableRules framesAccepted placesAccepted defaultAccepted accepted ifFull classAfter putOf stealKind stealOf reserveKind reserveOf unreserveKind unreserveOf syncOf entryPut keepTook entrySteal entryUnreserve keepTaken entryReserve keepSync entrySync inTree localTake localPut localRow localSwap localClear hasEnough cyclic firstLocal payerOr mayPay mayMove payerIn stealAny demoteAny held heldIn clearBits clear mark searchIn hasTree lowerFind lowerTake lowerGet lowerPut indexOf done missed missedAt stuck orElse withTrees withLocals withBits withTry withLook onTook onTaken onSync onHeld onPut onSwap onFound putEntry setRow askLower unreserve unreserveLocal takeBy topBy topUp getLocal ownLocal payFrom stealLocal demoteTo moveFrom demoteLocal place ratedIn rate insert admit stealGlobal reserved reserveOrSteal access tried offered visit onSight walkSteps walk tryList stopped searchBest near roundDown roundedStart searchFar searchFrom searchAndReserve searchAndSteal lastRoutes getAt startTree orFrom getReserving searchTrees getAny routes lengthsExact entryStands holderStands localStands classStands apart apartBefore reservedCount presentCount pastHeld standing numberOf outcomeOf refuseLocal refuseClass refusal unless ifStanding close frameOf get putTo onGiven put drainLocals onDrained drainClasses closeDrain drain freeAtStart freshTree freshWord freshState start
-claims = (refl, refl)
+-- ---- statistics: number, total free, free trees, and of the rows of classes 0 and 1 free, allocated, in use
+
+abbrev pub rowsOf : List Tally → List ℕ
+rowsOf [] = []
+rowsOf (x ∷ xs) = x .free ∷ x .alloc ∷ x .used ∷ rowsOf xs
+
+abbrev pub figuresIn : Report → List ℕ
+figuresIn r = r .number ∷ r .free ∷ r .trees ∷ rowsOf (take 2 (r .rows))
+
+-- so many lent rows, not clear
+abbrev pub lentRows : ℕ → List Tally
+lentRows zero = []
+lentRows (suc n) = record { free = 7; alloc = 7; used = 7 } ∷ lentRows n
+
+-- a wholly free tree split 1 + 2,047 is no free tree, a local that holds a whole one is; tree 1 is of class 1 and held by class 0
+abbrev pub counted : ℕ → ℕ → List ℕ
+counted entry0 n =
+    figuresIn (statistics (record { order = 11; frames = 6144; default = 1; places = 3 ∷ 2 ∷ replicate 6 0; pairs = match255 ∷ demote ∷ replicate 6 0 ++ steal ∷ match255 ∷ replicate 54 0 })
+    (entry0 ∷ 0x30000000 ∷ 0x20000800 ∷ []) (0x807FF00000000000 ∷ 0x8080000000000020 ∷ 0 ∷ []) (replicate 96 0) (lentRows n))
+
+-- Done; seven rows are Rows; an entry one too high is Broken: zeros, and the rows as they were
+abbrev pub tallied : List (List ℕ)
+tallied = counted 0x10000001 8 ∷ counted 0x10000001 7 ∷ counted 0x10000002 8 ∷ []
+
+abbrev pub tallies : List (List ℕ)
+tallies = (0 ∷ 6144 ∷ 2 ∷ 4096 ∷ 2047 ∷ 0 ∷ 2048 ∷ 2048 ∷ 0 ∷ []) ∷ (11 ∷ 0 ∷ 0 ∷ 7 ∷ 7 ∷ 7 ∷ 7 ∷ 7 ∷ 7 ∷ []) ∷ (1 ∷ 0 ∷ 0 ∷ 7 ∷ 7 ∷ 7 ∷ 7 ∷ 7 ∷ 7 ∷ []) ∷ []
+
+-- E1 to E12, the further cases and the statistics come out as given
+pub claims : (answered examples ≡ given examples) × ((answered further ≡ given further) × (tallied ≡ tallies))
+unfolding ifte allBelow sum listed firstIn treeCount configured localsOf slot localCount treeOf treeWord localOf localWord pairOf kindOf cutOf lowOf highOf policyOf policy kindAt good pairFormed pairAccepted tableFormed rulesAt tableRules framesAccepted placesAccepted defaultAccepted accepted ifFull classAfter putOf stealKind stealOf reserveKind reserveOf unreserveKind unreserveOf syncOf entryPut keepTook entrySteal entryUnreserve keepTaken entryReserve keepSync entrySync inTree localTake localPut localRow localSwap localClear hasEnough cyclic firstLocal payerOr mayPay mayMove payerIn stealAny demoteAny held heldIn clearBits clear mark searchIn hasTree lowerFind lowerTake lowerGet lowerPut indexOf done missed missedAt stuck orElse withTrees withLocals withBits withTry withLook onTook onTaken onSync onHeld onPut onSwap onFound putEntry setRow askLower unreserve unreserveLocal takeBy topBy topUp getLocal ownLocal payFrom stealLocal demoteTo moveFrom demoteLocal place ratedIn rate insert admit stealGlobal reserved reserveOrSteal access tried offered visit onSight walkSteps walk tryList stopped searchBest near roundDown roundedStart searchFar searchFrom searchAndReserve searchAndSteal lastRoutes getAt startTree orFrom getReserving searchTrees getAny routes lengthsExact entryStands holderStands localStands classStands apart apartBefore reservedCount presentCount pastHeld standing numberOf outcomeOf refuseLocal refuseClass refusal unless ifStanding close frameOf get putTo onGiven put drainLocals onDrained drainClasses closeDrain drain freeAtStart freshTree freshWord freshState start overClass entryFree localFree entryAlloc reservedFree inUse tally Statistics.tallies totalFree freeTrees statistics
+claims = (refl, (refl, refl))
 
 pub claim : answered examples ≡ given examples
 claim = claims .0

@@ -7,6 +7,7 @@ use Rattle.rules.specs.declared.Given.the-variants as Given
 use Rattle.rules.specs.declared.Request.{Request}
 use Rattle.ways.specs.State.{indexOf}
 
+-- default class, frames, order, class and index are in range
 pub record Fits (h : Header) (q : Request) : Type 0 where
   pub default : h .default < 8
   pub frames : h .frames ≤ 2 ^ 21

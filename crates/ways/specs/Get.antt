@@ -55,6 +55,7 @@ searchTrees c q Given.Nothing s = searchAndSteal c q (startTree c q Given.Nothin
 unfoldable pub getAny : Config → Request → State → Way
 getAny c q s = orElse (searchTrees c q (q .local) s) (lastRoutes c q Any)
 
+-- with no name, or with a named frame
 unfoldable pub routes : Config → Request → Name → State → Way
 routes c q Any s = getAny c q s
 routes c q (Frame f) s = getAt c q f s

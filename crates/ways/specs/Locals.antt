@@ -42,6 +42,7 @@ unfoldable pub topUp : ℕ → Config → Request → Name → ℕ → ℕ → �
 topUp zero c q name j row free s = missedAt (row / treeRows (c .order)) s
 topUp (suc k) c q name j row free s = topBy (takeBy (topUp k c q name j) c q name j) c q j row free s
 
+-- from the local at place j, with k syncs left
 unfoldable pub getLocal : ℕ → Config → Request → Name → ℕ → State → Way
 getLocal k c q name j s = takeBy (topUp k c q name j) c q name j s
 
@@ -61,6 +62,7 @@ payFrom c q name (Payer.Local k j) s =
     (λ row free s1. missed s1)
     missed
 
+-- steal from locals: the first with enough pays
 unfoldable pub stealLocal : Config → Request → Name → State → Way
 stealLocal c q name s = payFrom c q name (stealAny c (s .locals) (q .class) (indexOf (q .local)) name (size q)) s
 
@@ -87,5 +89,6 @@ moveFrom c q name (Payer.Local k j) s =
     (λ row free s1. missed s1)
     missed
 
+-- demote: the first with enough moves
 unfoldable pub demoteLocal : Config → Request → Name → State → Way
 demoteLocal c q name s = moveFrom c q name (demoteAny c (s .locals) (q .class) (indexOf (q .local)) name (size q)) s

@@ -28,12 +28,15 @@ words t l b = record { trees = t; locals = l; bits = b }
 abbrev pub StartPromise : Header → List ℕ → Bool → Words → Outcome → Words → Type 0
 StartPromise h pairs allFree s r e = told r (e .trees) (e .locals) (e .bits) ≡ start (config h pairs) allFree (s .trees) (s .locals) (s .bits)
 
+-- of the frame that is named, if one is, and the request q
 abbrev pub GetPromise : Header → List ℕ → Name → Request → Words → Reply → Words → Type 0
 GetPromise h pairs name q s r e = toldGet r (e .trees) (e .locals) (e .bits) ≡ get (config h pairs) q name (s .trees) (s .locals) (s .bits)
 
+-- of the block at frame f
 abbrev pub PutPromise : Header → List ℕ → ℕ → Request → Words → Outcome → Words → Type 0
 PutPromise h pairs f q s r e = told r (e .trees) (e .locals) (e .bits) ≡ put (config h pairs) q f (s .trees) (s .locals) (s .bits)
 
+-- of all reservations
 abbrev pub DrainPromise : Header → List ℕ → Words → Outcome → Words → Type 0
 DrainPromise h pairs s r e = told r (e .trees) (e .locals) (e .bits) ≡ drain (config h pairs) (s .trees) (s .locals) (s .bits)
 

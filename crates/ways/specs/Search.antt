@@ -39,6 +39,6 @@ searchFrom c q j start s =
 unfoldable pub searchAndReserve : Config → Request → ℕ → ℕ → State → Way
 searchAndReserve c q j start s = searchFrom c q j (roundedStart (trees c) start) s
 
--- stealing search: walk 0 to n, N = 8, plain ratings
+-- stealing search: walk 0 to n, N = 8, plain ratings (it has no own local: place 0 is not read)
 unfoldable pub searchAndSteal : Config → Request → ℕ → State → Way
 searchAndSteal c q start s = searchBest c q Walk.Stealing 0 8 (trees c) start 0 (trees c) s

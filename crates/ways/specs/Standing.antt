@@ -17,6 +17,7 @@ treeOn z l = l .row / treeRows z
 
 -- ---- the rules, sentence by sentence
 
+-- of configuration c, tree words ts, local words ls, bitmap words bs
 pub record Standing (c : Config) (ts ls bs : List ℕ) : Type 0 where
   -- header and policy table as a start accepts them
   pub config : accepted c ≡ true
@@ -50,6 +51,7 @@ pub record Standing (c : Config) (ts ls bs : List ℕ) : Type 0 where
 
 -- ---- the same as a test
 
+-- lent state lengths exact
 unfoldable pub lengthsExact : Config → List ℕ → List ℕ → List ℕ → Bool
 lengthsExact c ts ls bs =
     both (eqb (length ts) (trees c))

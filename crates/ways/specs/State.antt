@@ -35,6 +35,7 @@ pub record State : Type 0 where
   pub looks : ℕ
   pub tries : ℕ
 
+-- a state of these words and counts
 abbrev pub st : List ℕ → List ℕ → List ℕ → ℕ → ℕ → State
 st t l b i k = record { trees = t; locals = l; bits = b; looks = i; tries = k }
 
@@ -57,15 +58,19 @@ indexOf Given.Nothing = 0
 
 -- ---- ends
 
+-- a route that found frame f for class k
 unfoldable pub done : ℕ → ℕ → State → Way
 done f k s = out (Got.Done f k) s
 
+-- a route that came back empty
 unfoldable pub missed : State → Way
 missed s = out Got.Missed s
 
+-- the same, with a present own reservation on tree t
 unfoldable pub missedAt : ℕ → State → Way
 missedAt t s = out (Got.MissedAt t) s
 
+-- a return of a reservation that was refused
 unfoldable pub stuck : State → Way
 stuck s = out Got.Stuck s
 
@@ -78,12 +83,15 @@ orElse (out Got.Stuck s) next = out Got.Stuck s
 
 -- ---- steps: an operation's answer, and how the route goes on
 
+-- other tree words
 unfoldable pub withTrees : State → List ℕ → State
 withTrees s t = st t (s .locals) (s .bits) (s .looks) (s .tries)
 
+-- other local words
 unfoldable pub withLocals : State → List ℕ → State
 withLocals s l = st (s .trees) l (s .bits) (s .looks) (s .tries)
 
+-- other bitmap words
 unfoldable pub withBits : State → List ℕ → State
 withBits s b = st (s .trees) (s .locals) b (s .looks) (s .tries)
 
@@ -95,31 +103,38 @@ withTry s b = st (s .trees) (s .locals) b (s .looks) (s .tries + 1)
 unfoldable pub withLook : State → State
 withLook s = st (s .trees) (s .locals) (s .bits) (s .looks + 1) (s .tries)
 
+-- after a steal or an unreserve: the new entry, or refused
 unfoldable pub onTook : {A : Type 0} → Out Took (List ℕ) → State → (Tree → State → A) → (State → A) → A
 onTook (out (Took.Yes e) t) s hit miss = hit e (withTrees s t)
 onTook (out Took.No t) s hit miss = miss (withTrees s t)
 
+-- after a reserve or steal: a part, the whole with its old free, or refused
 unfoldable pub onTaken : {A : Type 0} → Out Taken (List ℕ) → State → (Tree → State → A) → (ℕ → State → A) → (State → A) → A
 onTaken (out (Taken.Part e) t) s part whole miss = part e (withTrees s t)
 onTaken (out (Taken.Whole e n) t) s part whole miss = whole n (withTrees s t)
 onTaken (out Taken.No t) s part whole miss = miss (withTrees s t)
 
+-- after a sync: the frames, or none
 unfoldable pub onSync : {A : Type 0} → Out Synced (List ℕ) → State → (ℕ → State → A) → (State → A) → A
 onSync (out (Synced.Free n) t) s hit miss = hit n (withTrees s t)
 onSync (out Synced.Nothing t) s hit miss = miss (withTrees s t)
 
+-- after a local was asked: paid at its row, too few or another tree, absent
 unfoldable pub onHeld : {A : Type 0} → Out Held (List ℕ) → State → (ℕ → State → A) → (ℕ → ℕ → State → A) → (State → A) → A
 onHeld (out (Held.Row row) l) s paid few absent = paid row (withLocals s l)
 onHeld (out (Held.Few row free) l) s paid few absent = few row free (withLocals s l)
 onHeld (out Held.Absent l) s paid few absent = absent (withLocals s l)
 
+-- after frames were put to a local: taken, or not
 unfoldable pub onPut : {A : Type 0} → Out Bool (List ℕ) → State → (State → A) → (State → A) → A
 onPut (out true l) s hit miss = hit (withLocals s l)
 onPut (out false l) s hit miss = miss (withLocals s l)
 
+-- after a local was stored: the one that stood there
 unfoldable pub onSwap : {A : Type 0} → Out Local (List ℕ) → State → (Local → State → A) → A
 onSwap (out old l) s next = next old (withLocals s l)
 
+-- after a lower call, which is a try: the frame found, or none
 unfoldable pub onFound : {A : Type 0} → Out Found (List ℕ) → State → (ℕ → State → A) → (State → A) → A
 onFound (out (Found.At f) b) s hit miss = hit f (withTry s b)
 onFound (out Found.Nothing b) s hit miss = miss (withTry s b)

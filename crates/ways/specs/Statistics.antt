@@ -60,6 +60,7 @@ pub record Report : Type 0 where
   pub trees : ℕ
   pub rows : List Tally
 
+-- number n, total free f, free trees t, and the rows
 abbrev pub reporting : ℕ → ℕ → ℕ → List Tally → Report
 reporting n f t rows = record { number = n; free = f; trees = t; rows = rows }
 

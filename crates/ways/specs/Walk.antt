@@ -1,4 +1,5 @@
--- 01, Walk: the order of trees, their rating, the list of the best, what is tried at once. Assumes nothing.
+-- 01, Walk: the order of trees, their rating, the list of the best, what is tried at once. Letters: n trees, i a step, t a tree, w the walk,
+-- j the place of the own local, m the length of the list (01's N). Assumes nothing.
 use mathlib.Core.Bool.{Bool, true, false}
 use mathlib.Core.List.{List, [], _∷_}
 use Prim.Native.Nat.{ℕ, zero, suc, _+_, _-_, _*_, _/_, _%_, _^_}
@@ -59,6 +60,7 @@ rate c q w e =
 
 -- ---- the list of the best: a rating with its fullness, and the tree
 
+-- a tree that was offered
 pub data Candidate : Type 0 where
   rated : ℕ → ℕ → Candidate
 
@@ -110,6 +112,7 @@ pub record Sight : Type 0 where
   pub found : List Candidate
   pub state : State
 
+-- these two together
 abbrev pub sight : List Candidate → State → Sight
 sight xs s = record { found = xs; state = s }
 
