@@ -1,14 +1,13 @@
-// Statistics: the row of a class, total free and free trees, by value; and the lent rows filled.
+// Statistics by value: the row of a class, the eight rows, total free and free trees.
 use rules::Header;
 use rules::Local;
 use ways::Tally;
 ghost use mathlib.Core.Path.{_≡_};
 ghost use Prim.Native.Nat.{_+_, _-_, _*_, _^_, _<_, _≤_};
 ghost use lib.Dec.{eqb};
-ghost use lib.ListN.{length};
 ghost use Rattle.rules.specs.Base.{pick, sum};
 ghost use Rattle.rules.specs.Words.{config};
-ghost use Rattle.ways.specs.Statistics.{localFree, reservedFree, tally, tallies, totalFree, freeTrees};
+ghost use Rattle.ways.specs.Statistics.{localFree, reservedFree, tally, totalFree, freeTrees};
 ghost use Rattle.tallies.specs.Rows.{rowsOf};
 ghost use Rattle.tallies.specs.Sums.{freeAt, allocAt, treeAt, heldAt, entriesFree, entriesWhole, localsFree, localsWhole};
 
@@ -201,26 +200,4 @@ pub fn all_rows<'a>(h: Header, table: &'a [u32; 64], trees: &'a [u32], locals: &
         r6: class_row(h, table, trees, locals, 6),
         r7: class_row(h, table, trees, locals, 7),
     }
-}
-
-// The lent rows, filled. A function over a lent slice of structs is proved by a walk of its code: so it is thin, one call and eight stores.
-pub fn fill_rows<'a, 'b>(
-    h: Header,
-    table: &'a [u32; 64],
-    trees: &'a [u32],
-    locals: &'a [u64],
-    rows: &'b mut [Tally],
-)
-    requires { ⌜ (h .frames ≤ 2 ^ 21) × (length (now rows) ≡ 8) ⌝ }
-    ensures { λ _. ⌜ now (rows .exit) ≡ tallies (config h (now (table .entry))) (now (trees .entry)) (now (locals .entry)) 0 8 ⌝ }
-{
-    let all = all_rows(h, table, trees, locals);
-    rows[0] = all.r0;
-    rows[1] = all.r1;
-    rows[2] = all.r2;
-    rows[3] = all.r3;
-    rows[4] = all.r4;
-    rows[5] = all.r5;
-    rows[6] = all.r6;
-    rows[7] = all.r7;
 }
