@@ -21,18 +21,19 @@ struct Answer {
 }
 
 #[repr(C)]
-struct Totals {
-    number: usize,
-    free: usize,
-    trees: usize,
-}
-
-#[repr(C)]
-#[derive(Clone, Copy, PartialEq)]
+#[derive(Clone, Copy)]
 struct Row {
     free: usize,
     alloc: usize,
     used: usize,
+}
+
+#[repr(C)]
+struct Report {
+    number: usize,
+    free: usize,
+    trees: usize,
+    rows: [Row; 8],
 }
 
 type Lent = (*mut u32, usize, *mut u64, usize, *mut u64, usize);
@@ -44,8 +45,7 @@ unsafe extern "C" {
     fn llfree_put(h: Header, table: *const u32, t: *mut u32, tn: usize, l: *mut u64, ln: usize, b: *mut u64, bn: usize,
         frame: usize, order: usize, class: usize, given: bool, local: usize) -> usize;
     fn llfree_drain(h: Header, table: *const u32, t: *mut u32, tn: usize, l: *mut u64, ln: usize, b: *mut u64, bn: usize) -> usize;
-    fn llfree_statistics(h: Header, table: *const u32, t: *const u32, tn: usize, l: *const u64, ln: usize, b: *const u64, bn: usize,
-        rows: *mut Row, n: usize) -> Totals;
+    fn llfree_statistics(h: Header, table: *const u32, t: *const u32, tn: usize, l: *const u64, ln: usize, b: *const u64, bn: usize, rows: usize) -> Report;
 }
 
 pub struct Port;
@@ -97,18 +97,8 @@ impl Engine for Port {
     fn stats(&mut self, s: &mut State) -> Said<Counted> {
         let (h, p, n) = (header(s), table(s), s.rows);
         let (t, tn, l, ln, b, bn) = lent(s);
-        let mark = Row { free: 0xA5A5, alloc: 0x5A5A, used: 0xC3C3 };
-        let mut rows = [mark; 16];
-        let a = unsafe { llfree_statistics(h, p.as_ptr(), t, tn, l, ln, b, bn, rows.as_mut_ptr(), n) };
-        // a refused call leaves the rows
-        if a.number != 0 && rows.iter().any(|r| *r != mark) {
-            return Said::Disagrees;
-        }
-        let filled = if a.number == 0 {
-            std::array::from_fn(|i| Tally { free: rows[i].free as u64, alloc: rows[i].alloc as u64, used: rows[i].used as u64 })
-        } else {
-            [Tally::default(); 8]
-        };
-        Said::Is(Counted { number: a.number as u8, free: a.free as u64, trees: a.trees as u64, rows: filled })
+        let a = unsafe { llfree_statistics(h, p.as_ptr(), t, tn, l, ln, b, bn, n) };
+        let rows = a.rows.map(|r| Tally { free: r.free as u64, alloc: r.alloc as u64, used: r.used as u64 });
+        Said::Is(Counted { number: a.number as u8, free: a.free as u64, trees: a.trees as u64, rows })
     }
 }
