@@ -55,7 +55,7 @@ fn number(o: Outcome) -> usize
 }
 
 // A get's answer in numbers.
-fn answer(r: Reply) -> Answer
+fn answered(r: Reply) -> Answer
     ensures { λ a. ⌜ ((t l b : List ℕ) → telling (a .number) (a .frame) (a .class) (st t l b (a .looks) (a .tries)) ≡ toldGet r t l b) ⌝ }
 {
     let granted = r.granted;
@@ -144,7 +144,7 @@ pub extern "C" fn llfree_get(
 {
     let name = name_of(named, frame);
     let q = ask(order, class, given, local);
-    answer(llfree::get(h, table, trees, locals, bits, name, q))
+    answered(llfree::get(h, table, trees, locals, bits, name, q))
 }
 
 // A put of the block at a frame.
