@@ -1,3 +1,4 @@
+-- `others::index_of` meets its contract. Assumes nothing.
 use Rattle.ways.specs.State.{indexOf}
 use borrow.Author.Needs.{needs}
 use Rattle.others.proofs.index_of.Statement.{statement}
@@ -5,21 +6,17 @@ use Rattle.others.proofs.index_of.Tie as tie
 use Rattle.others.proofs.index_of.Reads as reads
 use Rattle.others.proofs.index_of.Lts as lts
 
--- src/lib.rt:25:22
 enum-known-local : tie.Need-enum-known-local
 enum-known-local c = search needs
 
--- src/lib.rt:26:27
 enum-told : tie.Need-enum-told
 enum-told c = search needs
 
--- src/lib.rt:21:1
 returns : tie.Need-returns
 unfolding indexOf
 returns c =
     rw (c .before .local .given .1)
 
--- src/lib.rt:21:1
 returns-2 : tie.Need-returns-2
 unfolding indexOf
 returns-2 c =

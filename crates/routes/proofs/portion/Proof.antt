@@ -1,3 +1,4 @@
+-- `routes::portion` meets its contract. Assumes nothing.
 use mathlib.Core.Path.{refl}
 use Prim.Native.Nat.{_*_, _/_, _^_, _<_}
 use native.Mathlib.Omega.{arith}
@@ -8,17 +9,14 @@ use Rattle.routes.proofs.portion.Tie as tie
 use Rattle.routes.proofs.portion.Reads as reads
 use Rattle.routes.proofs.portion.Lts as lts
 
--- src/lib.rt:114:5
 div-result : tie.Need-div-result
 div-result c = search needs
 
--- src/lib.rt:114:5
 mul-result : tie.Need-mul-result
 mul-result c =
     let f : c .args .n / c .args .m * c .args .i < 2 ^ 44 = start-fits _ _ _ (c .pre .1 .0) (c .pre .1 .1) in
     omega arith
 
--- src/lib.rt:110:1
 returns : tie.Need-returns
 returns c = (refl, start-fits _ _ _ (c .pre .1 .0) (c .pre .1 .1))
 

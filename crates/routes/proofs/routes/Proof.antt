@@ -1,3 +1,4 @@
+-- `routes::routes` meets its contract. Assumes nothing.
 use Rattle.ways.specs.Get.{routes}
 use borrow.Author.Needs.{needs}
 use Rattle.routes.proofs.routes.Statement.{statement}
@@ -7,59 +8,51 @@ use Rattle.routes.proofs.routes.Lts as lts
 use Rattle.routes.proofs.get_any.Reads as get-any-reads
 use Rattle.routes.proofs.get_at.Reads as get-at-reads
 
--- src/lib.rt:256:40
 enum-told : tie.Need-enum-told
 enum-told c = search needs
 
--- src/lib.rt:256:22
 get-any-requires : tie.Need-get-any-requires
 get-any-requires c κs = search needs
 
--- src/lib.rt:257:21
 enum-known-name : tie.Need-enum-known-name
 enum-known-name c = search needs
 
--- src/lib.rt:257:27
 get-at-requires : tie.Need-get-at-requires
 get-at-requires c κs = search needs
 
--- src/lib.rt:242:1
 same-length : tie.Need-same-length
 same-length c = search needs
 
--- src/lib.rt:242:1
 same-length-2 : tie.Need-same-length-2
 same-length-2 c = search needs
 
--- src/lib.rt:242:1
 same-length-3 : tie.Need-same-length-3
 same-length-3 c = search needs
 
--- src/lib.rt:242:1
 returns : tie.Need-returns
 unfolding routes
 returns c =
-    rw (c .before .before .before .before .before .before .before .before .before .before .enum-told .given .1,
-    ← c .before .before .before .before .before .before .get-any .ensures .0)
+    rw (
+      c .before .before .before .before .before .before .before .before .before .before .enum-told .given .1,
+      ← c .before .before .before .before .before .before .get-any .ensures .0,
+    )
 
--- src/lib.rt:242:1
 same-length-4 : tie.Need-same-length-4
 same-length-4 c = search needs
 
--- src/lib.rt:242:1
 same-length-5 : tie.Need-same-length-5
 same-length-5 c = search needs
 
--- src/lib.rt:242:1
 same-length-6 : tie.Need-same-length-6
 same-length-6 c = search needs
 
--- src/lib.rt:242:1
 returns-2 : tie.Need-returns-2
 unfolding routes
 returns-2 c =
-    rw (c .before .before .before .before .before .before .before .before .before .before .before .name .given .1,
-    ← c .before .before .before .before .before .before .get-at .ensures .0)
+    rw (
+      c .before .before .before .before .before .before .before .before .before .before .before .name .given .1,
+      ← c .before .before .before .before .before .before .get-at .ensures .0,
+    )
 
 pub routes-spec : {M : Type 1} → statement M
 routes-spec =

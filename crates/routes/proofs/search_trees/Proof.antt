@@ -1,3 +1,4 @@
+-- `routes::search_trees` meets its contract. Assumes nothing.
 use Rattle.ways.specs.Fits.{given-small}
 use Rattle.rules.specs.Base.{ifte}
 use Rattle.ways.specs.Get.{searchTrees, startTree}
@@ -14,107 +15,98 @@ use Rattle.search.proofs.search_and_steal.Reads as search-and-steal-reads
 use Rattle.words.proofs.locals_of.Reads as locals-of-reads
 use Rattle.words.proofs.slot.Reads as slot-reads
 
--- src/lib.rt:183:22
 enum-known-local : tie.Need-enum-known-local
 enum-known-local c = search needs
 
--- src/lib.rt:184:17
 start-tree-requires : tie.Need-start-tree-requires
 start-tree-requires c κs = (c .before .before .before .before .before .before .pre .0, given-small _ _ (c .before .local .given .1) (c .before .before .before .before .before .before .pre .1 .0))
 
--- src/lib.rt:185:16
 locals-of-requires : tie.Need-locals-of-requires
 locals-of-requires c κs = search needs
 
--- src/lib.rt:185:47
 count-requires : tie.Need-count-requires
 count-requires c κs = search needs
 
--- src/lib.rt:186:21
 slot-requires : tie.Need-slot-requires
 slot-requires c κs = (search needs, given-small _ _ (c .before .before .before .before .before .local .given .1) (c .before .before .before .before .before .before .before .before .before .before .pre .1 .0))
 
--- src/lib.rt:187:17
 get-reserving-requires : tie.Need-get-reserving-requires
 get-reserving-requires c κs = search needs
 
--- src/lib.rt:187:17
 same-length : tie.Need-same-length
 same-length c = search needs
 
--- src/lib.rt:187:17
 same-length-2 : tie.Need-same-length-2
 same-length-2 c = search needs
 
--- src/lib.rt:187:17
 same-length-3 : tie.Need-same-length-3
 same-length-3 c = search needs
 
--- src/lib.rt:187:17
 returns : tie.Need-returns
 unfolding searchTrees startTree ifte
-returns c =
-    (rw (c .before .before .before .before .before .before .before .before .before .before .before .before .before .before .before .before .local .given .1,
+returns c = (
+  rw (
+    c .before .before .before .before .before .before .before .before .before .before .before .before .before .before .before .before .local .given .1,
     ← c .before .before .before .before .before .before .before .before .before .before .before .before .before .before .start-tree .ensures .0,
     ← c .before .before .before .before .before .before .before .before .before .before .before .before .before .locals-of .ensures .0,
     ← c .before .before .before .before .before .before .before .before .before .before .before .before .count .ensures .0,
     lt-ltb _ _ (c .before .before .before .before .before .before .before .before .before .before .before .if1 .taken),
     ← c .before .before .before .before .before .before .before .before .before .before .slot .ensures,
-    ← c .before .before .before .before .before .before .get-reserving .ensures .0), (search needs, search needs))
+    ← c .before .before .before .before .before .before .get-reserving .ensures .0,
+  ),
+  (search needs, search needs),
+)
 
--- src/lib.rt:189:13
 search-and-steal-requires : tie.Need-search-and-steal-requires
 search-and-steal-requires c κs = search needs
 
--- src/lib.rt:192:48
 enum-told : tie.Need-enum-told
 enum-told c = search needs
 
--- src/lib.rt:192:13
 search-and-steal-requires-2 : tie.Need-search-and-steal-requires-2
 search-and-steal-requires-2 c κs = search needs
 
--- src/lib.rt:166:1
 same-length-4 : tie.Need-same-length-4
 same-length-4 c = search needs
 
--- src/lib.rt:166:1
 same-length-5 : tie.Need-same-length-5
 same-length-5 c = search needs
 
--- src/lib.rt:166:1
 same-length-6 : tie.Need-same-length-6
 same-length-6 c = search needs
 
--- src/lib.rt:166:1
 returns-2 : tie.Need-returns-2
 unfolding searchTrees startTree ifte
-returns-2 c =
-    (rw (c .before .before .before .before .before .before .before .before .before .before .before .before .before .before .before .local .given .1,
+returns-2 c = (
+  rw (
+    c .before .before .before .before .before .before .before .before .before .before .before .before .before .before .before .local .given .1,
     ← c .before .before .before .before .before .before .before .before .before .before .before .before .before .start-tree .ensures .0,
     ← c .before .before .before .before .before .before .before .before .before .before .before .before .locals-of .ensures .0,
     ← c .before .before .before .before .before .before .before .before .before .before .before .count .ensures .0,
     le-ltb _ _ (c .before .before .before .before .before .before .before .before .before .before .if1 .left),
-    ← c .before .before .before .before .before .before .search-and-steal .ensures .0), (search needs, search needs))
+    ← c .before .before .before .before .before .before .search-and-steal .ensures .0,
+  ),
+  (search needs, search needs),
+)
 
--- src/lib.rt:166:1
 same-length-7 : tie.Need-same-length-7
 same-length-7 c = search needs
 
--- src/lib.rt:166:1
 same-length-8 : tie.Need-same-length-8
 same-length-8 c = search needs
 
--- src/lib.rt:166:1
 same-length-9 : tie.Need-same-length-9
 same-length-9 c = search needs
 
--- src/lib.rt:166:1
 returns-3 : tie.Need-returns-3
 unfolding searchTrees startTree ifte
-returns-3 c =
-    (rw (c .before .before .before .before .before .before .before .before .before .before .enum-told .given .1,
-    ← c .before .before .before .before .before .before .search-and-steal2 .ensures .0), (search needs, search needs))
+returns-3 c = (
+  rw (
+    c .before .before .before .before .before .before .before .before .before .before .enum-told .given .1,
+    ← c .before .before .before .before .before .before .search-and-steal2 .ensures .0,
+  ),
+  (search needs, search needs),
+)
 
 pub search-trees-spec : {M : Type 1} → statement M
 search-trees-spec =

@@ -1,3 +1,4 @@
+-- `steal::access` meets its contract. Assumes nothing.
 use Rattle.ways.specs.Walk.{access}
 use borrow.Author.Needs.{needs}
 use Rattle.steal.proofs.access.Statement.{statement}
@@ -7,43 +8,33 @@ use Rattle.steal.proofs.access.Lts as lts
 use Rattle.steal.proofs.reserve_or_steal.Reads as reserve-or-steal-reads
 use Rattle.steal.proofs.steal_global.Reads as steal-global-reads
 
--- src/lib.rt:269:40
 enum-told : tie.Need-enum-told
 enum-told c = search needs
 
--- src/lib.rt:269:13
 reserve-or-steal-requires : tie.Need-reserve-or-steal-requires
 reserve-or-steal-requires c κs = search needs
 
--- src/lib.rt:272:40
 enum-told-2 : tie.Need-enum-told-2
 enum-told-2 c = search needs
 
--- src/lib.rt:272:13
 reserve-or-steal-requires-2 : tie.Need-reserve-or-steal-requires-2
 reserve-or-steal-requires-2 c κs = search needs
 
--- src/lib.rt:275:36
 enum-told-3 : tie.Need-enum-told-3
 enum-told-3 c = search needs
 
--- src/lib.rt:275:13
 steal-global-requires : tie.Need-steal-global-requires
 steal-global-requires c κs = search needs
 
--- src/lib.rt:249:1
 same-length : tie.Need-same-length
 same-length c = search needs
 
--- src/lib.rt:249:1
 same-length-2 : tie.Need-same-length-2
 same-length-2 c = search needs
 
--- src/lib.rt:249:1
 same-length-3 : tie.Need-same-length-3
 same-length-3 c = search needs
 
--- src/lib.rt:249:1
 returns : tie.Need-returns
 unfolding access
 returns c = (
@@ -54,19 +45,15 @@ returns c = (
   (search needs, search needs),
 )
 
--- src/lib.rt:249:1
 same-length-4 : tie.Need-same-length-4
 same-length-4 c = search needs
 
--- src/lib.rt:249:1
 same-length-5 : tie.Need-same-length-5
 same-length-5 c = search needs
 
--- src/lib.rt:249:1
 same-length-6 : tie.Need-same-length-6
 same-length-6 c = search needs
 
--- src/lib.rt:249:1
 returns-2 : tie.Need-returns-2
 unfolding access
 returns-2 c = (
@@ -77,19 +64,15 @@ returns-2 c = (
   (search needs, search needs),
 )
 
--- src/lib.rt:249:1
 same-length-7 : tie.Need-same-length-7
 same-length-7 c = search needs
 
--- src/lib.rt:249:1
 same-length-8 : tie.Need-same-length-8
 same-length-8 c = search needs
 
--- src/lib.rt:249:1
 same-length-9 : tie.Need-same-length-9
 same-length-9 c = search needs
 
--- src/lib.rt:249:1
 returns-3 : tie.Need-returns-3
 unfolding access
 returns-3 c = (

@@ -1,3 +1,4 @@
+-- `steal::ask_lower` meets its contract. Assumes nothing.
 use Rattle.rules.specs.Base.{ifte}
 use Rattle.ways.specs.State.{askLower, onTook, onTaken, onFound, onSwap, done, missed, missedAt, stuck, putEntry, unreserve, unreserveLocal, withTrees, withLocals, withTry}
 use Rattle.ways.specs.Walk.{stealGlobal, reserved, reserveOrSteal, access}
@@ -10,43 +11,33 @@ use Rattle.bits.proofs.frames.Reads as frames-reads
 use Rattle.lower.proofs.lower_get.Reads as lower-get-reads
 use Rattle.trees.proofs.put.Reads as put-reads
 
--- src/lib.rt:39:11
 lower-get-requires : tie.Need-lower-get-requires
 lower-get-requires c κs = search needs
 
--- src/lib.rt:40:19
 enum-known-f : tie.Need-enum-known-f
 enum-known-f c = search needs
 
--- src/lib.rt:46:20
 add-t19 : tie.Need-add-t19
 add-t19 c = search needs
 
--- src/lib.rt:49:34
 enum-told : tie.Need-enum-told
 enum-told c = search needs
 
--- src/lib.rt:49:44
 frames-requires : tie.Need-frames-requires
 frames-requires c κs = search needs
 
--- src/lib.rt:49:44
 cast-put : tie.Need-cast-put
 cast-put c = search needs
 
--- src/lib.rt:49:13
 put-requires : tie.Need-put-requires
 put-requires c κs = search needs
 
--- src/lib.rt:53:24
 add-t24 : tie.Need-add-t24
 add-t24 c = search needs
 
--- src/lib.rt:20:1
 same-length : tie.Need-same-length
 same-length c = search needs
 
--- src/lib.rt:20:1
 returns : tie.Need-returns
 unfolding askLower stealGlobal reserved reserveOrSteal access onTook onTaken onFound onSwap done missed missedAt stuck putEntry unreserve unreserveLocal withTrees withLocals withTry ifte
 returns c = (
@@ -57,15 +48,12 @@ returns c = (
   (search needs, search needs),
 )
 
--- src/lib.rt:20:1
 same-length-2 : tie.Need-same-length-2
 same-length-2 c = search needs
 
--- src/lib.rt:20:1
 same-length-3 : tie.Need-same-length-3
 same-length-3 c = search needs
 
--- src/lib.rt:20:1
 returns-2 : tie.Need-returns-2
 unfolding askLower stealGlobal reserved reserveOrSteal access onTook onTaken onFound onSwap done missed missedAt stuck putEntry unreserve unreserveLocal withTrees withLocals withTry ifte
 returns-2 c = (

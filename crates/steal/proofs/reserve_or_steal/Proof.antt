@@ -1,3 +1,4 @@
+-- `steal::reserve_or_steal` meets its contract. Assumes nothing.
 use Rattle.ways.specs.State.{onTaken, missed, withTrees}
 use Rattle.ways.specs.Walk.{reserveOrSteal}
 use borrow.Author.Needs.{needs}
@@ -10,47 +11,36 @@ use Rattle.steal.proofs.ask_lower.Reads as ask-lower-reads
 use Rattle.steal.proofs.reserved.Reads as reserved-reads
 use Rattle.trees.proofs.reserve_or_steal.Reads as reserve-or-steal-reads
 
--- src/lib.rt:222:64
 frames-requires : tie.Need-frames-requires
 frames-requires c κs = search needs
 
--- src/lib.rt:222:64
 cast-reserve-or-steal : tie.Need-cast-reserve-or-steal
 cast-reserve-or-steal c = search needs
 
--- src/lib.rt:222:11
 reserve-or-steal-requires : tie.Need-reserve-or-steal-requires
 reserve-or-steal-requires c κs = search needs
 
--- src/lib.rt:224:18
 enum-told : tie.Need-enum-told
 enum-told c = search needs
 
--- src/lib.rt:228:21
 enum-known-e : tie.Need-enum-known-e
 enum-known-e c = search needs
 
--- src/lib.rt:237:13
 mul-ask-lower : tie.Need-mul-ask-lower
 mul-ask-lower c = search needs
 
--- src/lib.rt:228:27
 ask-lower-requires : tie.Need-ask-lower-requires
 ask-lower-requires c κs = search needs
 
--- src/lib.rt:242:22
 enum-known-e-2 : tie.Need-enum-known-e-2
 enum-known-e-2 c = search needs
 
--- src/lib.rt:243:13
 reserved-requires : tie.Need-reserved-requires
 reserved-requires c κs = search needs
 
--- src/lib.rt:205:1
 same-length : tie.Need-same-length
 same-length c = search needs
 
--- src/lib.rt:205:1
 returns : tie.Need-returns
 unfolding reserveOrSteal onTaken missed withTrees
 returns c = (
@@ -62,19 +52,15 @@ returns c = (
   (search needs, search needs),
 )
 
--- src/lib.rt:205:1
 same-length-2 : tie.Need-same-length-2
 same-length-2 c = search needs
 
--- src/lib.rt:205:1
 same-length-3 : tie.Need-same-length-3
 same-length-3 c = search needs
 
--- src/lib.rt:205:1
 same-length-4 : tie.Need-same-length-4
 same-length-4 c = search needs
 
--- src/lib.rt:205:1
 returns-2 : tie.Need-returns-2
 unfolding reserveOrSteal onTaken missed withTrees
 returns-2 c = (
@@ -87,19 +73,15 @@ returns-2 c = (
   (search needs, search needs),
 )
 
--- src/lib.rt:205:1
 same-length-5 : tie.Need-same-length-5
 same-length-5 c = search needs
 
--- src/lib.rt:205:1
 same-length-6 : tie.Need-same-length-6
 same-length-6 c = search needs
 
--- src/lib.rt:205:1
 same-length-7 : tie.Need-same-length-7
 same-length-7 c = search needs
 
--- src/lib.rt:205:1
 returns-3 : tie.Need-returns-3
 unfolding reserveOrSteal onTaken missed withTrees
 returns-3 c = (

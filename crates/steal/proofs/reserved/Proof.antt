@@ -1,3 +1,4 @@
+-- `steal::reserved` meets its contract. Assumes nothing.
 use Rattle.rules.specs.Base.{ifte}
 use Rattle.ways.specs.State.{askLower, onTook, onTaken, onFound, onSwap, done, missed, missedAt, stuck, putEntry, unreserve, unreserveLocal, withTrees, withLocals, withTry}
 use Rattle.ways.specs.Walk.{stealGlobal, reserved, reserveOrSteal, access}
@@ -13,83 +14,63 @@ use Rattle.steal.proofs.less.Reads as less-reads
 use Rattle.steal.proofs.unreserve_local.Reads as unreserve-local-reads
 use Rattle.trees.proofs.unreserve.Reads as unreserve-reads
 
--- src/lib.rt:175:34
 mul-lower-get : tie.Need-mul-lower-get
 mul-lower-get c = search needs
 
--- src/lib.rt:175:11
 lower-get-requires : tie.Need-lower-get-requires
 lower-get-requires c κs = search needs
 
--- src/lib.rt:176:19
 enum-known-f : tie.Need-enum-known-f
 enum-known-f c = search needs
 
--- src/lib.rt:177:21
 frames-requires : tie.Need-frames-requires
 frames-requires c κs = search needs
 
--- src/lib.rt:177:21
 cast-n : tie.Need-cast-n
 cast-n c = search needs
 
--- src/lib.rt:182:26
 mul-unreserve-local : tie.Need-mul-unreserve-local
 mul-unreserve-local c = search needs
 
--- src/lib.rt:183:27
 less-requires : tie.Need-less-requires
 less-requires c κs = search needs
 
--- src/lib.rt:178:17
 swap-requires : tie.Need-swap-requires
 swap-requires c κs = search needs
 
--- src/lib.rt:187:82
 add-unreserve-local : tie.Need-add-unreserve-local
 add-unreserve-local c = search needs
 
--- src/lib.rt:187:13
 unreserve-local-requires : tie.Need-unreserve-local-requires
 unreserve-local-requires c κs = search needs
 
--- src/lib.rt:189:60
 enum-told : tie.Need-enum-told
 enum-told c = search needs
 
--- src/lib.rt:189:33
 unreserve-requires : tie.Need-unreserve-requires
 unreserve-requires c κs = search needs
 
--- src/lib.rt:191:22
 enum-told-2 : tie.Need-enum-told-2
 enum-told-2 c = search needs
 
--- src/lib.rt:193:24
 add-t40 : tie.Need-add-t40
 add-t40 c = search needs
 
--- src/lib.rt:196:22
 enum-told-3 : tie.Need-enum-told-3
 enum-told-3 c = search needs
 
--- src/lib.rt:198:24
 add-t42 : tie.Need-add-t42
 add-t42 c = search needs
 
--- src/lib.rt:157:1
 same-length : tie.Need-same-length
 same-length c = search needs
 
--- src/lib.rt:157:1
 same-length-2 : tie.Need-same-length-2
 same-length-2 c = search needs
 
--- src/lib.rt:157:1
 same-length-3 : tie.Need-same-length-3
 same-length-3 c = search needs
 
--- src/lib.rt:157:1
 returns : tie.Need-returns
 unfolding askLower stealGlobal reserved reserveOrSteal access onTook onTaken onFound onSwap done missed missedAt stuck putEntry unreserve unreserveLocal withTrees withLocals withTry ifte
 returns c = (
@@ -104,15 +85,12 @@ returns c = (
   (search needs, search needs),
 )
 
--- src/lib.rt:157:1
 same-length-4 : tie.Need-same-length-4
 same-length-4 c = search needs
 
--- src/lib.rt:157:1
 same-length-5 : tie.Need-same-length-5
 same-length-5 c = search needs
 
--- src/lib.rt:157:1
 returns-2 : tie.Need-returns-2
 unfolding askLower stealGlobal reserved reserveOrSteal access onTook onTaken onFound onSwap done missed missedAt stuck putEntry unreserve unreserveLocal withTrees withLocals withTry ifte
 returns-2 c = (
@@ -125,15 +103,12 @@ returns-2 c = (
   (search needs, search needs),
 )
 
--- src/lib.rt:157:1
 same-length-6 : tie.Need-same-length-6
 same-length-6 c = search needs
 
--- src/lib.rt:157:1
 same-length-7 : tie.Need-same-length-7
 same-length-7 c = search needs
 
--- src/lib.rt:157:1
 returns-3 : tie.Need-returns-3
 unfolding askLower stealGlobal reserved reserveOrSteal access onTook onTaken onFound onSwap done missed missedAt stuck putEntry unreserve unreserveLocal withTrees withLocals withTry ifte
 returns-3 c = (

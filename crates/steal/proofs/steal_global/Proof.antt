@@ -1,3 +1,4 @@
+-- `steal::steal_global` meets its contract. Assumes nothing.
 use Rattle.ways.specs.State.{onTook, missed, withTrees}
 use Rattle.ways.specs.Walk.{stealGlobal}
 use borrow.Author.Needs.{needs}
@@ -9,39 +10,30 @@ use Rattle.bits.proofs.frames.Reads as frames-reads
 use Rattle.steal.proofs.ask_lower.Reads as ask-lower-reads
 use Rattle.trees.proofs.steal.Reads as steal-reads
 
--- src/lib.rt:77:53
 frames-requires : tie.Need-frames-requires
 frames-requires c κs = search needs
 
--- src/lib.rt:77:53
 cast-steal : tie.Need-cast-steal
 cast-steal c = search needs
 
--- src/lib.rt:77:11
 steal-requires : tie.Need-steal-requires
 steal-requires c κs = search needs
 
--- src/lib.rt:79:18
 enum-told : tie.Need-enum-told
 enum-told c = search needs
 
--- src/lib.rt:83:19
 enum-known-e : tie.Need-enum-known-e
 enum-known-e c = search needs
 
--- src/lib.rt:92:13
 mul-ask-lower : tie.Need-mul-ask-lower
 mul-ask-lower c = search needs
 
--- src/lib.rt:83:25
 ask-lower-requires : tie.Need-ask-lower-requires
 ask-lower-requires c κs = search needs
 
--- src/lib.rt:60:1
 same-length : tie.Need-same-length
 same-length c = search needs
 
--- src/lib.rt:60:1
 returns : tie.Need-returns
 unfolding stealGlobal onTook missed withTrees
 returns c = (
@@ -53,19 +45,15 @@ returns c = (
   (search needs, search needs),
 )
 
--- src/lib.rt:60:1
 same-length-2 : tie.Need-same-length-2
 same-length-2 c = search needs
 
--- src/lib.rt:60:1
 same-length-3 : tie.Need-same-length-3
 same-length-3 c = search needs
 
--- src/lib.rt:60:1
 same-length-4 : tie.Need-same-length-4
 same-length-4 c = search needs
 
--- src/lib.rt:60:1
 returns-2 : tie.Need-returns-2
 unfolding stealGlobal onTook missed withTrees
 returns-2 c = (

@@ -1,3 +1,4 @@
+-- `steal::unreserve_local` meets its contract. Assumes nothing.
 use Rattle.rules.specs.Base.{ifte}
 use Rattle.ways.specs.State.{askLower, onTook, onTaken, onFound, onSwap, done, missed, missedAt, stuck, putEntry, unreserve, unreserveLocal, withTrees, withLocals, withTry}
 use Rattle.ways.specs.Walk.{stealGlobal, reserved, reserveOrSteal, access}
@@ -8,23 +9,18 @@ use Rattle.steal.proofs.unreserve_local.Reads as reads
 use Rattle.steal.proofs.unreserve_local.Lts as lts
 use Rattle.trees.proofs.unreserve.Reads as unreserve-reads
 
--- src/lib.rt:119:15
 unreserve-requires : tie.Need-unreserve-requires
 unreserve-requires c κs = search needs
 
--- src/lib.rt:121:22
 enum-told : tie.Need-enum-told
 enum-told c = search needs
 
--- src/lib.rt:129:22
 enum-told-2 : tie.Need-enum-told-2
 enum-told-2 c = search needs
 
--- src/lib.rt:101:1
 same-length : tie.Need-same-length
 same-length c = search needs
 
--- src/lib.rt:101:1
 returns : tie.Need-returns
 unfolding askLower stealGlobal reserved reserveOrSteal access onTook onTaken onFound onSwap done missed missedAt stuck putEntry unreserve unreserveLocal withTrees withLocals withTry ifte
 returns c = (
@@ -36,11 +32,9 @@ returns c = (
   (search needs, search needs),
 )
 
--- src/lib.rt:101:1
 same-length-2 : tie.Need-same-length-2
 same-length-2 c = search needs
 
--- src/lib.rt:101:1
 returns-2 : tie.Need-returns-2
 unfolding askLower stealGlobal reserved reserveOrSteal access onTook onTaken onFound onSwap done missed missedAt stuck putEntry unreserve unreserveLocal withTrees withLocals withTry ifte
 returns-2 c = (
@@ -52,7 +46,6 @@ returns-2 c = (
   (search needs, search needs),
 )
 
--- src/lib.rt:101:1
 returns-3 : tie.Need-returns-3
 unfolding askLower stealGlobal reserved reserveOrSteal access onTook onTaken onFound onSwap done missed missedAt stuck putEntry unreserve unreserveLocal withTrees withLocals withTry ifte
 returns-3 c =

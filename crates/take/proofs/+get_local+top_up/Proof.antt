@@ -1,3 +1,4 @@
+-- `take::get_local`, `take::top_up` meet their contracts. Assumes nothing.
 use Rattle.rules.specs.Base.{ifte}
 use Rattle.ways.specs.Locals.{getLocal, takeBy, topBy}
 use Rattle.ways.specs.State.{onHeld, onFound, onSync, onPut, done, missed, missedAt, putEntry, setRow, withTrees, withLocals, withTry}
@@ -43,7 +44,6 @@ top-up-at t = and 4 top-up-kinds.ps (is 4 top-up-kinds.ps μ-top-up t) top-up.Pr
 abbrev top-up-below : ℕ → In 4 top-up-kinds.ps
 top-up-below t = and 4 top-up-kinds.ps (falls 4 top-up-kinds.ps _<_ μ-top-up t) top-up.Pre
 
--- src/lib.rt:37:13
 get-local-frames-requires : (t : ℕ) → get-local-lts.Need-frames-requires (
   frames-reads.Asked,
   frames-reads.Learnt,
@@ -60,7 +60,6 @@ get-local-frames-requires : (t : ℕ) → get-local-lts.Need-frames-requires (
 ) (get-local-at t) get-local.Post
 get-local-frames-requires t c κs = search needs
 
--- src/lib.rt:37:13
 get-local-cast-n : (t : ℕ) → get-local-lts.Need-cast-n (
   frames-reads.Asked,
   frames-reads.Learnt,
@@ -77,7 +76,6 @@ get-local-cast-n : (t : ℕ) → get-local-lts.Need-cast-n (
 ) (get-local-at t) get-local.Post
 get-local-cast-n t c = search needs
 
--- src/lib.rt:38:11
 get-local-take-requires : (t : ℕ) → get-local-lts.Need-take-requires (
   frames-reads.Asked,
   frames-reads.Learnt,
@@ -94,7 +92,6 @@ get-local-take-requires : (t : ℕ) → get-local-lts.Need-take-requires (
 ) (get-local-at t) get-local.Post
 get-local-take-requires t c κs = search needs
 
--- src/lib.rt:39:19
 get-local-enum-known-row : (t : ℕ) → get-local-lts.Need-enum-known-row (
   frames-reads.Asked,
   frames-reads.Learnt,
@@ -111,7 +108,6 @@ get-local-enum-known-row : (t : ℕ) → get-local-lts.Need-enum-known-row (
 ) (get-local-at t) get-local.Post
 get-local-enum-known-row t c = search needs
 
--- src/lib.rt:39:33
 get-local-lower-get-requires : (t : ℕ) → get-local-lts.Need-lower-get-requires (
   frames-reads.Asked,
   frames-reads.Learnt,
@@ -128,7 +124,6 @@ get-local-lower-get-requires : (t : ℕ) → get-local-lts.Need-lower-get-requir
 ) (get-local-at t) get-local.Post
 get-local-lower-get-requires t c κs = search needs
 
--- src/lib.rt:40:23
 get-local-enum-known-f : (t : ℕ) → get-local-lts.Need-enum-known-f (
   frames-reads.Asked,
   frames-reads.Learnt,
@@ -145,7 +140,6 @@ get-local-enum-known-f : (t : ℕ) → get-local-lts.Need-enum-known-f (
 ) (get-local-at t) get-local.Post
 get-local-enum-known-f t c = search needs
 
--- src/lib.rt:41:17
 get-local-set-start-requires : (t : ℕ) → get-local-lts.Need-set-start-requires (
   frames-reads.Asked,
   frames-reads.Learnt,
@@ -162,7 +156,6 @@ get-local-set-start-requires : (t : ℕ) → get-local-lts.Need-set-start-requir
 ) (get-local-at t) get-local.Post
 get-local-set-start-requires t c κs = search needs
 
--- src/lib.rt:48:28
 get-local-add-t29 : (t : ℕ) → get-local-lts.Need-add-t29 (
   frames-reads.Asked,
   frames-reads.Learnt,
@@ -179,7 +172,6 @@ get-local-add-t29 : (t : ℕ) → get-local-lts.Need-add-t29 (
 ) (get-local-at t) get-local.Post
 get-local-add-t29 t c = search needs
 
--- src/lib.rt:52:38
 get-local-enum-told : (t : ℕ) → get-local-lts.Need-enum-told (
   frames-reads.Asked,
   frames-reads.Learnt,
@@ -196,7 +188,6 @@ get-local-enum-told : (t : ℕ) → get-local-lts.Need-enum-told (
 ) (get-local-at t) get-local.Post
 get-local-enum-told t c = search needs
 
--- src/lib.rt:52:17
 get-local-put-requires : (t : ℕ) → get-local-lts.Need-put-requires (
   frames-reads.Asked,
   frames-reads.Learnt,
@@ -213,7 +204,6 @@ get-local-put-requires : (t : ℕ) → get-local-lts.Need-put-requires (
 ) (get-local-at t) get-local.Post
 get-local-put-requires t c κs = search needs
 
--- src/lib.rt:56:28
 get-local-add-t36 : (t : ℕ) → get-local-lts.Need-add-t36 (
   frames-reads.Asked,
   frames-reads.Learnt,
@@ -230,7 +220,6 @@ get-local-add-t36 : (t : ℕ) → get-local-lts.Need-add-t36 (
 ) (get-local-at t) get-local.Post
 get-local-add-t36 t c = search needs
 
--- src/lib.rt:60:21
 get-local-enum-known-row-2 : (t : ℕ) → get-local-lts.Need-enum-known-row-2 (
   frames-reads.Asked,
   frames-reads.Learnt,
@@ -247,7 +236,6 @@ get-local-enum-known-row-2 : (t : ℕ) → get-local-lts.Need-enum-known-row-2 (
 ) (get-local-at t) get-local.Post
 get-local-enum-known-row-2 t c = search needs
 
--- src/lib.rt:61:13
 get-local-top-up-requires : (t : ℕ) → get-local-lts.Need-top-up-requires (
   frames-reads.Asked,
   frames-reads.Learnt,
@@ -264,7 +252,6 @@ get-local-top-up-requires : (t : ℕ) → get-local-lts.Need-top-up-requires (
 ) (get-local-at t) get-local.Post
 get-local-top-up-requires t c κs = search needs
 
--- src/lib.rt:64:18
 get-local-enum-told-2 : (t : ℕ) → get-local-lts.Need-enum-told-2 (
   frames-reads.Asked,
   frames-reads.Learnt,
@@ -281,7 +268,6 @@ get-local-enum-told-2 : (t : ℕ) → get-local-lts.Need-enum-told-2 (
 ) (get-local-at t) get-local.Post
 get-local-enum-told-2 t c = search needs
 
--- src/lib.rt:19:1
 get-local-same-length : (t : ℕ) → get-local-lts.Need-same-length (
   frames-reads.Asked,
   frames-reads.Learnt,
@@ -298,7 +284,6 @@ get-local-same-length : (t : ℕ) → get-local-lts.Need-same-length (
 ) (get-local-at t) get-local.Post
 get-local-same-length t c = search needs
 
--- src/lib.rt:19:1
 get-local-same-length-2 : (t : ℕ) → get-local-lts.Need-same-length-2 (
   frames-reads.Asked,
   frames-reads.Learnt,
@@ -315,7 +300,6 @@ get-local-same-length-2 : (t : ℕ) → get-local-lts.Need-same-length-2 (
 ) (get-local-at t) get-local.Post
 get-local-same-length-2 t c = search needs
 
--- src/lib.rt:19:1
 get-local-returns : (t : ℕ) → get-local-lts.Need-returns (
   frames-reads.Asked,
   frames-reads.Learnt,
@@ -343,7 +327,6 @@ get-local-returns t c = (
   (search needs, search needs),
 )
 
--- src/lib.rt:19:1
 get-local-same-length-3 : (t : ℕ) → get-local-lts.Need-same-length-3 (
   frames-reads.Asked,
   frames-reads.Learnt,
@@ -360,7 +343,6 @@ get-local-same-length-3 : (t : ℕ) → get-local-lts.Need-same-length-3 (
 ) (get-local-at t) get-local.Post
 get-local-same-length-3 t c = search needs
 
--- src/lib.rt:19:1
 get-local-same-length-4 : (t : ℕ) → get-local-lts.Need-same-length-4 (
   frames-reads.Asked,
   frames-reads.Learnt,
@@ -377,7 +359,6 @@ get-local-same-length-4 : (t : ℕ) → get-local-lts.Need-same-length-4 (
 ) (get-local-at t) get-local.Post
 get-local-same-length-4 t c = search needs
 
--- src/lib.rt:19:1
 get-local-same-length-5 : (t : ℕ) → get-local-lts.Need-same-length-5 (
   frames-reads.Asked,
   frames-reads.Learnt,
@@ -394,7 +375,6 @@ get-local-same-length-5 : (t : ℕ) → get-local-lts.Need-same-length-5 (
 ) (get-local-at t) get-local.Post
 get-local-same-length-5 t c = search needs
 
--- src/lib.rt:19:1
 get-local-returns-2 : (t : ℕ) → get-local-lts.Need-returns-2 (
   frames-reads.Asked,
   frames-reads.Learnt,
@@ -422,7 +402,6 @@ get-local-returns-2 t c = (
   (search needs, search needs),
 )
 
--- src/lib.rt:19:1
 get-local-same-length-6 : (t : ℕ) → get-local-lts.Need-same-length-6 (
   frames-reads.Asked,
   frames-reads.Learnt,
@@ -439,7 +418,6 @@ get-local-same-length-6 : (t : ℕ) → get-local-lts.Need-same-length-6 (
 ) (get-local-at t) get-local.Post
 get-local-same-length-6 t c = search needs
 
--- src/lib.rt:19:1
 get-local-same-length-7 : (t : ℕ) → get-local-lts.Need-same-length-7 (
   frames-reads.Asked,
   frames-reads.Learnt,
@@ -456,7 +434,6 @@ get-local-same-length-7 : (t : ℕ) → get-local-lts.Need-same-length-7 (
 ) (get-local-at t) get-local.Post
 get-local-same-length-7 t c = search needs
 
--- src/lib.rt:19:1
 get-local-same-length-8 : (t : ℕ) → get-local-lts.Need-same-length-8 (
   frames-reads.Asked,
   frames-reads.Learnt,
@@ -473,7 +450,6 @@ get-local-same-length-8 : (t : ℕ) → get-local-lts.Need-same-length-8 (
 ) (get-local-at t) get-local.Post
 get-local-same-length-8 t c = search needs
 
--- src/lib.rt:19:1
 get-local-returns-3 : (t : ℕ) → get-local-lts.Need-returns-3 (
   frames-reads.Asked,
   frames-reads.Learnt,
@@ -499,7 +475,6 @@ get-local-returns-3 t c = (
   (search needs, search needs),
 )
 
--- src/lib.rt:19:1
 get-local-same-length-9 : (t : ℕ) → get-local-lts.Need-same-length-9 (
   frames-reads.Asked,
   frames-reads.Learnt,
@@ -516,7 +491,6 @@ get-local-same-length-9 : (t : ℕ) → get-local-lts.Need-same-length-9 (
 ) (get-local-at t) get-local.Post
 get-local-same-length-9 t c = search needs
 
--- src/lib.rt:19:1
 get-local-returns-4 : (t : ℕ) → get-local-lts.Need-returns-4 (
   frames-reads.Asked,
   frames-reads.Learnt,
@@ -541,7 +515,6 @@ get-local-returns-4 t c = (
   (search needs, search needs),
 )
 
--- src/lib.rt:93:9
 top-up-returns : (t : ℕ) → top-up-lts.Need-returns (
   frames-reads.Asked,
   frames-reads.Learnt,
@@ -558,7 +531,6 @@ unfolding getLocal takeBy topBy onHeld onFound onSync onPut done missed missedAt
 top-up-returns t c =
     (rw (topUp-none _ _ _ _ _ _ _ _ (c .if1 .taken)), (search needs, search needs))
 
--- src/lib.rt:99:13
 top-up-frames-requires : (t : ℕ) → top-up-lts.Need-frames-requires (
   frames-reads.Asked,
   frames-reads.Learnt,
@@ -573,7 +545,6 @@ top-up-frames-requires : (t : ℕ) → top-up-lts.Need-frames-requires (
 ) (top-up-at t) top-up.Post
 top-up-frames-requires t c κs = search needs
 
--- src/lib.rt:99:13
 top-up-cast-n : (t : ℕ) → top-up-lts.Need-cast-n (
   frames-reads.Asked,
   frames-reads.Learnt,
@@ -588,7 +559,6 @@ top-up-cast-n : (t : ℕ) → top-up-lts.Need-cast-n (
 ) (top-up-at t) top-up.Post
 top-up-cast-n t c = search needs
 
--- src/lib.rt:101:9
 top-up-returns-2 : (t : ℕ) → top-up-lts.Need-returns-2 (
   frames-reads.Asked,
   frames-reads.Learnt,
@@ -611,7 +581,6 @@ top-up-returns-2 t c = (
   (search needs, search needs),
 )
 
--- src/lib.rt:107:11
 top-up-sync-requires : (t : ℕ) → top-up-lts.Need-sync-requires (
   frames-reads.Asked,
   frames-reads.Learnt,
@@ -626,7 +595,6 @@ top-up-sync-requires : (t : ℕ) → top-up-lts.Need-sync-requires (
 ) (top-up-at t) top-up.Post
 top-up-sync-requires t c κs = search needs
 
--- src/lib.rt:108:22
 top-up-enum-known-x : (t : ℕ) → top-up-lts.Need-enum-known-x (
   frames-reads.Asked,
   frames-reads.Learnt,
@@ -641,7 +609,6 @@ top-up-enum-known-x : (t : ℕ) → top-up-lts.Need-enum-known-x (
 ) (top-up-at t) top-up.Post
 top-up-enum-known-x t c = search needs
 
--- src/lib.rt:109:48
 top-up-cast-put : (t : ℕ) → top-up-lts.Need-cast-put (
   frames-reads.Asked,
   frames-reads.Learnt,
@@ -656,7 +623,6 @@ top-up-cast-put : (t : ℕ) → top-up-lts.Need-cast-put (
 ) (top-up-at t) top-up.Post
 top-up-cast-put t c = search needs
 
--- src/lib.rt:109:16
 top-up-put-requires : (t : ℕ) → top-up-lts.Need-put-requires (
   frames-reads.Asked,
   frames-reads.Learnt,
@@ -671,7 +637,6 @@ top-up-put-requires : (t : ℕ) → top-up-lts.Need-put-requires (
 ) (top-up-at t) top-up.Post
 top-up-put-requires t c κs = search needs
 
--- src/lib.rt:110:77
 top-up-sub-get-local : (t : ℕ) → top-up-lts.Need-sub-get-local (
   frames-reads.Asked,
   frames-reads.Learnt,
@@ -686,7 +651,6 @@ top-up-sub-get-local : (t : ℕ) → top-up-lts.Need-sub-get-local (
 ) (top-up-at t) top-up.Post
 top-up-sub-get-local t c = search needs
 
--- src/lib.rt:110:17
 top-up-get-local-requires : (t : ℕ) → top-up-lts.Need-get-local-requires (
   frames-reads.Asked,
   frames-reads.Learnt,
@@ -701,7 +665,6 @@ top-up-get-local-requires : (t : ℕ) → top-up-lts.Need-get-local-requires (
 ) (top-up-at t) top-up.Post
 top-up-get-local-requires t c κs = search needs
 
--- src/lib.rt:110:17
 top-up-same-length : (t : ℕ) → top-up-lts.Need-same-length (
   frames-reads.Asked,
   frames-reads.Learnt,
@@ -716,7 +679,6 @@ top-up-same-length : (t : ℕ) → top-up-lts.Need-same-length (
 ) (top-up-at t) top-up.Post
 top-up-same-length t c = search needs
 
--- src/lib.rt:110:17
 top-up-same-length-2 : (t : ℕ) → top-up-lts.Need-same-length-2 (
   frames-reads.Asked,
   frames-reads.Learnt,
@@ -731,7 +693,6 @@ top-up-same-length-2 : (t : ℕ) → top-up-lts.Need-same-length-2 (
 ) (top-up-at t) top-up.Post
 top-up-same-length-2 t c = search needs
 
--- src/lib.rt:110:17
 top-up-same-length-3 : (t : ℕ) → top-up-lts.Need-same-length-3 (
   frames-reads.Asked,
   frames-reads.Learnt,
@@ -746,7 +707,6 @@ top-up-same-length-3 : (t : ℕ) → top-up-lts.Need-same-length-3 (
 ) (top-up-at t) top-up.Post
 top-up-same-length-3 t c = search needs
 
--- src/lib.rt:110:17
 top-up-returns-3 : (t : ℕ) → top-up-lts.Need-returns-3 (
   frames-reads.Asked,
   frames-reads.Learnt,
@@ -774,7 +734,6 @@ top-up-returns-3 t c = (
   (search needs, search needs),
 )
 
--- src/lib.rt:112:51
 top-up-cast-put-2 : (t : ℕ) → top-up-lts.Need-cast-put-2 (
   frames-reads.Asked,
   frames-reads.Learnt,
@@ -789,7 +748,6 @@ top-up-cast-put-2 : (t : ℕ) → top-up-lts.Need-cast-put-2 (
 ) (top-up-at t) top-up.Post
 top-up-cast-put-2 t c = search needs
 
--- src/lib.rt:112:13
 top-up-put-requires-2 : (t : ℕ) → top-up-lts.Need-put-requires-2 (
   frames-reads.Asked,
   frames-reads.Learnt,
@@ -804,7 +762,6 @@ top-up-put-requires-2 : (t : ℕ) → top-up-lts.Need-put-requires-2 (
 ) (top-up-at t) top-up.Post
 top-up-put-requires-2 t c κs = search needs
 
--- src/lib.rt:120:32
 top-up-enum-told : (t : ℕ) → top-up-lts.Need-enum-told (
   frames-reads.Asked,
   frames-reads.Learnt,
@@ -819,7 +776,6 @@ top-up-enum-told : (t : ℕ) → top-up-lts.Need-enum-told (
 ) (top-up-at t) top-up.Post
 top-up-enum-told t c = search needs
 
--- src/lib.rt:72:1
 top-up-same-length-4 : (t : ℕ) → top-up-lts.Need-same-length-4 (
   frames-reads.Asked,
   frames-reads.Learnt,
@@ -834,7 +790,6 @@ top-up-same-length-4 : (t : ℕ) → top-up-lts.Need-same-length-4 (
 ) (top-up-at t) top-up.Post
 top-up-same-length-4 t c = search needs
 
--- src/lib.rt:72:1
 top-up-same-length-5 : (t : ℕ) → top-up-lts.Need-same-length-5 (
   frames-reads.Asked,
   frames-reads.Learnt,
@@ -849,7 +804,6 @@ top-up-same-length-5 : (t : ℕ) → top-up-lts.Need-same-length-5 (
 ) (top-up-at t) top-up.Post
 top-up-same-length-5 t c = search needs
 
--- src/lib.rt:72:1
 top-up-returns-4 : (t : ℕ) → top-up-lts.Need-returns-4 (
   frames-reads.Asked,
   frames-reads.Learnt,
@@ -877,7 +831,6 @@ top-up-returns-4 t c = (
   (search needs, search needs),
 )
 
--- src/lib.rt:72:1
 top-up-same-length-6 : (t : ℕ) → top-up-lts.Need-same-length-6 (
   frames-reads.Asked,
   frames-reads.Learnt,
@@ -892,7 +845,6 @@ top-up-same-length-6 : (t : ℕ) → top-up-lts.Need-same-length-6 (
 ) (top-up-at t) top-up.Post
 top-up-same-length-6 t c = search needs
 
--- src/lib.rt:72:1
 top-up-returns-5 : (t : ℕ) → top-up-lts.Need-returns-5 (
   frames-reads.Asked,
   frames-reads.Learnt,

@@ -1,3 +1,4 @@
+-- `take::own_local` meets its contract. Assumes nothing.
 use Rattle.ways.specs.Fits.{given-small}
 use Rattle.ways.specs.Locals.{ownLocal}
 use Rattle.ways.specs.State.{missed}
@@ -9,35 +10,27 @@ use Rattle.take.proofs.own_local.Lts as lts
 use Rattle.take.proofs.get_local.Reads as get-local-reads
 use Rattle.words.proofs.slot.Reads as slot-reads
 
--- src/lib.rt:146:22
 enum-known-local : tie.Need-enum-known-local
 enum-known-local c = search needs
 
--- src/lib.rt:147:17
 slot-requires : tie.Need-slot-requires
 slot-requires c κs = (search needs, given-small _ _ (c .before .local .given .1) (c .before .before .before .before .before .before .pre .1 .0))
 
--- src/lib.rt:148:13
 get-local-requires : tie.Need-get-local-requires
 get-local-requires c κs = search needs
 
--- src/lib.rt:151:18
 enum-told : tie.Need-enum-told
 enum-told c = search needs
 
--- src/lib.rt:128:1
 same-length : tie.Need-same-length
 same-length c = search needs
 
--- src/lib.rt:128:1
 same-length-2 : tie.Need-same-length-2
 same-length-2 c = search needs
 
--- src/lib.rt:128:1
 same-length-3 : tie.Need-same-length-3
 same-length-3 c = search needs
 
--- src/lib.rt:128:1
 returns : tie.Need-returns
 unfolding ownLocal missed
 returns c = (
@@ -49,7 +42,6 @@ returns c = (
   (search needs, search needs),
 )
 
--- src/lib.rt:128:1
 returns-2 : tie.Need-returns-2
 unfolding ownLocal missed
 returns-2 c =
