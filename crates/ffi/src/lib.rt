@@ -116,12 +116,12 @@ pub extern "C" fn llfree_start(
     trees: &mut [u32],
     locals: &mut [u64],
     bits: &mut [u64],
-    all_free: bool,
+    free: bool,
 ) -> usize
     ensures { λ r. ⌜ telling r 0 0 (fresh (now (trees .exit)) (now (locals .exit)) (now (bits .exit)))
-      ≡ start (config h (now (table .entry))) all_free (now (trees .entry)) (now (locals .entry)) (now (bits .entry)) ⌝ }
+      ≡ start (config h (now (table .entry))) free (now (trees .entry)) (now (locals .entry)) (now (bits .entry)) ⌝ }
 {
-    number(llfree::start(h, table, trees, locals, bits, all_free))
+    number(llfree::start(h, table, trees, locals, bits, free))
 }
 
 // A get, of the named frame or of any.
