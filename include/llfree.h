@@ -8,7 +8,7 @@
  * The caller's part: each pointer is valid for its length, aligned for its type and not null (also where the
  * length is 0), the buffers of one call do not overlap, and no other thread uses them during the call.
  *
- * Link with libffi.a (x86-64). It asks for memcpy, memset, memmove and memcmp at most.
+ * Link with libffi.a (x86-64), which `rt staticlib ffi` makes. It asks for memcpy, memset, memmove and memcmp at most.
  */
 #ifndef LLFREE_H
 #define LLFREE_H
@@ -147,6 +147,8 @@ uint64_t llfree_drain(struct llfree_header header, const uint32_t table[64],
                       uint32_t *trees, size_t trees_len, uint64_t *locals, size_t locals_len,
                       uint64_t *bits, size_t bits_len);
 
+/* Statistics are declared for archives that export them. */
+#ifdef LLFREE_STATISTICS
 /*
  * Statistics into eight tally rows, one for each class: Done, Broken, Rows. The words are only read.
  * Done writes all eight rows, also those of unconfigured classes; a refused call leaves the rows.
@@ -155,6 +157,7 @@ struct llfree_totals llfree_statistics(struct llfree_header header, const uint32
                                        const uint32_t *trees, size_t trees_len, const uint64_t *locals,
                                        size_t locals_len, const uint64_t *bits, size_t bits_len,
                                        struct llfree_tally *rows, size_t rows_len);
+#endif
 
 #ifdef __cplusplus
 }

@@ -101,7 +101,7 @@ int main(void) {
     right = llfree_drain(header, table, trees, n, locals, k, bits, w) == LLFREE_DONE;
     check("drain", right && locals[0] == 0 && trees[7] == 0x20000800);
     check("a length", llfree_drain(header, table, trees, n - 1, locals, k, bits, w) == LLFREE_BROKEN);
-#ifndef NO_STATISTICS
+#ifdef LLFREE_STATISTICS
     struct llfree_tally rows[8];
     memset(rows, 0xa5, sizeof rows);
     struct llfree_totals t = llfree_statistics(header, table, trees, n, locals, k, bits, w, rows, 8);

@@ -100,7 +100,7 @@ fn main() {
     right &= s.frames().put(14336, q) == Ok(());
     check("put", right && s.locals[0] == 0x8080_0000_0000_00E0 && s.bits[224] == 0);
     check("drain", s.frames().drain() == Ok(()) && s.locals[0] == 0 && s.trees[7] == 0x2000_0800);
-    #[cfg(not(no_statistics))]
+    #[cfg(llfree_statistics)]
     {
         use llfree::{Tally, Totals};
         let mut rows = [Tally { free: 5, alloc: 5, used: 5 }; 8];

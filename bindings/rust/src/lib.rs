@@ -182,6 +182,7 @@ struct RawReply {
     tries: u64,
 }
 
+#[cfg(llfree_statistics)]
 #[repr(C)]
 struct RawTotals {
     number: u64,
@@ -194,6 +195,7 @@ unsafe extern "C" {
     fn llfree_get(h: Header, table: *const u32, trees: *mut u32, n: usize, locals: *mut u64, k: usize, bits: *mut u64, w: usize, named: bool, frame: u64, order: u64, class: u64, given: bool, local: u64) -> RawReply;
     fn llfree_put(h: Header, table: *const u32, trees: *mut u32, n: usize, locals: *mut u64, k: usize, bits: *mut u64, w: usize, frame: u64, order: u64, class: u64, given: bool, local: u64) -> u64;
     fn llfree_drain(h: Header, table: *const u32, trees: *mut u32, n: usize, locals: *mut u64, k: usize, bits: *mut u64, w: usize) -> u64;
+    #[cfg(llfree_statistics)]
     fn llfree_statistics(h: Header, table: *const u32, trees: *const u32, n: usize, locals: *const u64, k: usize, bits: *const u64, w: usize, rows: *mut Tally, r: usize) -> RawTotals;
 }
 
@@ -251,7 +253,8 @@ impl Frames<'_> {
         })
     }
 
-    /// Statistics into eight rows, one for each class.
+    /// Statistics into eight rows, one for each class, for archives that export them.
+    #[cfg(llfree_statistics)]
     pub fn statistics(&self, rows: &mut [Tally]) -> Result<Totals, Refusal> {
         let r = unsafe {
             llfree_statistics(
