@@ -1,0 +1,17 @@
+-- `ffi::ask` meets its contract. Assumes nothing.
+use borrow.Author.Needs.{needs}
+use Rattle.ffi.proofs.ask.Statement.{statement}
+use Rattle.ffi.proofs.ask.Tie as tie
+use Rattle.ffi.proofs.ask.Reads as reads
+use Rattle.ffi.proofs.ask.Lts as lts
+use Rattle.ffi.proofs.given_of.Reads as given-of-reads
+
+given-of-requires : tie.Need-given-of-requires
+given-of-requires c κs = search needs
+
+returns : tie.Need-returns
+returns c =
+    rw (← c .given-of .ensures)
+
+pub ask-spec : {M : Type 1} → statement M
+ask-spec = tie.close (tie.spec given-of-requires returns)

@@ -1,0 +1,31 @@
+-- `ffi::llfree_drain` meets its contract. Assumes nothing.
+use borrow.Author.Needs.{needs}
+use Rattle.ffi.proofs.llfree_drain.Statement.{statement}
+use Rattle.ffi.proofs.llfree_drain.Tie as tie
+use Rattle.ffi.proofs.llfree_drain.Reads as reads
+use Rattle.ffi.proofs.llfree_drain.Lts as lts
+use Rattle.ffi.proofs.number.Reads as number-reads
+use Rattle.llfree.proofs.drain.Reads as drain-reads
+
+drain-requires : tie.Need-drain-requires
+drain-requires c κs = search needs
+
+number-requires : tie.Need-number-requires
+number-requires c κs = search needs
+
+same-length : tie.Need-same-length
+same-length c = search needs
+
+same-length-2 : tie.Need-same-length-2
+same-length-2 c = search needs
+
+same-length-3 : tie.Need-same-length-3
+same-length-3 c = search needs
+
+returns : tie.Need-returns
+returns c = rw (c .number .ensures) (c .before .before .before .before .before .before .before .drain .ensures)
+
+pub llfree-drain-spec : {M : Type 1} → statement M
+llfree-drain-spec =
+    tie.close
+    (tie.spec drain-requires number-requires same-length same-length-2 same-length-3 returns)

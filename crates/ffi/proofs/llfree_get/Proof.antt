@@ -1,0 +1,50 @@
+-- `ffi::llfree_get` meets its contract. Assumes nothing.
+use mathlib.Core.Path.{_∙_}
+use borrow.Author.Needs.{needs}
+use Rattle.ffi.proofs.llfree_get.Statement.{statement}
+use Rattle.ffi.proofs.llfree_get.Tie as tie
+use Rattle.ffi.proofs.llfree_get.Reads as reads
+use Rattle.ffi.proofs.llfree_get.Lts as lts
+use Rattle.ffi.proofs.answered.Reads as answered-reads
+use Rattle.ffi.proofs.ask.Reads as ask-reads
+use Rattle.ffi.proofs.name_of.Reads as name-of-reads
+use Rattle.llfree.proofs.get.Reads as get-reads
+
+name-of-requires : tie.Need-name-of-requires
+name-of-requires c κs = search needs
+
+ask-requires : tie.Need-ask-requires
+ask-requires c κs = search needs
+
+get-requires : tie.Need-get-requires
+get-requires c κs = search needs
+
+answered-requires : tie.Need-answered-requires
+answered-requires c κs = search needs
+
+same-length : tie.Need-same-length
+same-length c = search needs
+
+same-length-2 : tie.Need-same-length-2
+same-length-2 c = search needs
+
+same-length-3 : tie.Need-same-length-3
+same-length-3 c = search needs
+
+returns : tie.Need-returns
+returns c =
+    rw (← c .before .before .before .before .before .before .before .before .before .before .before .before .name-of .ensures, ← c .before .before .before .before .before .before .before .before .before .before .before .ask .ensures)
+    (c .answered .ensures _ _ _ ∙ c .before .before .before .before .before .before .before .get .ensures)
+
+pub llfree-get-spec : {M : Type 1} → statement M
+llfree-get-spec =
+    tie.close
+    (tie.spec
+    name-of-requires
+    ask-requires
+    get-requires
+    answered-requires
+    same-length
+    same-length-2
+    same-length-3
+    returns)

@@ -1,0 +1,19 @@
+-- `ffi::name_of` meets its contract. Assumes nothing.
+use Rattle.ffi.specs.Args.{nameOf}
+use Rattle.ffi.proofs.name_of.Statement.{statement}
+use Rattle.ffi.proofs.name_of.Tie as tie
+use Rattle.ffi.proofs.name_of.Reads as reads
+use Rattle.ffi.proofs.name_of.Lts as lts
+
+returns : tie.Need-returns
+unfolding nameOf
+returns c =
+    rw (c .if1 .taken)
+
+returns-2 : tie.Need-returns-2
+unfolding nameOf
+returns-2 c =
+    rw (c .if1 .left)
+
+pub name-of-spec : {M : Type 1} → statement M
+name-of-spec = tie.close (tie.spec returns returns-2)

@@ -1,0 +1,31 @@
+-- `ffi::number` meets its contract. Assumes nothing.
+use Rattle.ways.specs.Calls.{outcomeOf, numberOf}
+use borrow.Author.Needs.{needs}
+use Rattle.ffi.proofs.number.Statement.{statement}
+use Rattle.ffi.proofs.number.Tie as tie
+use Rattle.ffi.proofs.number.Reads as reads
+use Rattle.ffi.proofs.number.Lts as lts
+use Rattle.ffi.proofs.refusal_number.Reads as refusal-number-reads
+
+enum-told : tie.Need-enum-told
+enum-told c = search needs
+
+enum-known-o : tie.Need-enum-known-o
+enum-known-o c = search needs
+
+refusal-number-requires : tie.Need-refusal-number-requires
+refusal-number-requires c κs = search needs
+
+returns : tie.Need-returns
+unfolding outcomeOf numberOf
+returns c =
+    rw (c .enum-told .given .1)
+
+returns-2 : tie.Need-returns-2
+unfolding outcomeOf numberOf
+returns-2 c =
+    rw (c .before .before .o .given .1,
+    ← c .refusal-number .ensures)
+
+pub number-spec : {M : Type 1} → statement M
+number-spec = tie.close (tie.spec enum-told enum-known-o refusal-number-requires returns returns-2)

@@ -1,0 +1,2 @@
+-- the arguments of the exported calls, and what they tell
+pub mod Args

@@ -1,0 +1,184 @@
+// The library for C and Rust: the calls of llfree with C types. Each answers with a number of document 01 on any arguments, table, header, lengths and words.
+use rules::Given;
+use rules::Header;
+use rules::Name;
+use rules::Request;
+use ways::Granted;
+use ways::Outcome;
+use ways::Refusal;
+use ways::Reply;
+ghost use mathlib.Core.Path.{_≡_};
+ghost use mathlib.Core.List.{List};
+ghost use Prim.Native.Nat.{ℕ};
+ghost use Rattle.rules.specs.Words.{config};
+ghost use Rattle.ways.specs.State.{st};
+ghost use Rattle.ways.specs.Calls.{numberOf, outcomeOf, telling, fresh, toldGet, start, get, put, drain};
+ghost use Rattle.ffi.specs.Args.{nameOf, givenOf, asking};
+
+// What a get answers: the number, the frame and the class (0 and 0 where it is refused), and the counts.
+#[repr(C)]
+pub struct Answer {
+    pub number: usize,
+    pub frame: usize,
+    pub class: usize,
+    pub looks: usize,
+    pub tries: usize,
+}
+
+// The number of a refusal.
+fn refusal_number(x: Refusal) -> usize
+    ensures { λ r. ⌜ r ≡ numberOf x ⌝ }
+{
+    match x {
+        Refusal::Broken => 1,
+        Refusal::Order => 2,
+        Refusal::Bounds => 3,
+        Refusal::Misaligned => 4,
+        Refusal::Class => 5,
+        Refusal::Local => 6,
+        Refusal::Memory => 7,
+        Refusal::NotHeld => 8,
+        Refusal::Stuck => 9,
+        Refusal::Config => 10,
+        Refusal::Rows => 11,
+    }
+}
+
+// The number of an outcome.
+fn number(o: Outcome) -> usize
+    ensures { λ r. ⌜ r ≡ outcomeOf o ⌝ }
+{
+    match o {
+        Outcome::Done => 0,
+        Outcome::Refused(x) => refusal_number(x),
+    }
+}
+
+// A get's answer in numbers.
+fn answered(r: Reply) -> Answer
+    ensures { λ a. ⌜ ((t l b : List ℕ) → telling (a .number) (a .frame) (a .class) (st t l b (a .looks) (a .tries)) ≡ toldGet r t l b) ⌝ }
+{
+    let granted = r.granted;
+    match granted {
+        Granted::Done { frame, class } => Answer {
+            number: 0,
+            frame: frame,
+            class: class,
+            looks: r.looks,
+            tries: r.tries,
+        },
+        Granted::Refused(x) => Answer {
+            number: refusal_number(x),
+            frame: 0,
+            class: 0,
+            looks: r.looks,
+            tries: r.tries,
+        },
+    }
+}
+
+// The frame that a get names, if it names one.
+fn name_of(named: bool, frame: usize) -> Name
+    ensures { λ r. ⌜ r ≡ nameOf named frame ⌝ }
+{
+    if named {
+        return Name::Frame(frame);
+    }
+    Name::Any
+}
+
+// The local that a call gives, if it gives one.
+fn given_of(given: bool, local: usize) -> Given
+    ensures { λ r. ⌜ r ≡ givenOf given local ⌝ }
+{
+    if given {
+        return Given::Local(local);
+    }
+    Given::Nothing
+}
+
+// What a get or a put asks for.
+fn ask(order: usize, class: usize, given: bool, local: usize) -> Request
+    ensures { λ r. ⌜ r ≡ asking order class given local ⌝ }
+{
+    Request {
+        order: order,
+        class: class,
+        local: given_of(given, local),
+    }
+}
+
+// A start, all free or all held.
+#[no_mangle]
+pub extern "C" fn llfree_start(
+    h: Header,
+    table: &[u32; 64],
+    trees: &mut [u32],
+    locals: &mut [u64],
+    bits: &mut [u64],
+    free: bool,
+) -> usize
+    ensures { λ r. ⌜ telling r 0 0 (fresh (now (trees .exit)) (now (locals .exit)) (now (bits .exit)))
+      ≡ start (config h (now (table .entry))) free (now (trees .entry)) (now (locals .entry)) (now (bits .entry)) ⌝ }
+{
+    number(llfree::start(h, table, trees, locals, bits, free))
+}
+
+// A get, of the named frame or of any.
+#[no_mangle]
+pub extern "C" fn llfree_get(
+    h: Header,
+    table: &[u32; 64],
+    trees: &mut [u32],
+    locals: &mut [u64],
+    bits: &mut [u64],
+    named: bool,
+    frame: usize,
+    order: usize,
+    class: usize,
+    given: bool,
+    local: usize,
+) -> Answer
+    ensures { λ r. ⌜ telling (r .number) (r .frame) (r .class) (st (now (trees .exit)) (now (locals .exit)) (now (bits .exit)) (r .looks) (r .tries))
+      ≡ get (config h (now (table .entry))) (asking order class given local) (nameOf named frame) (now (trees .entry)) (now (locals .entry)) (now (bits .entry)) ⌝ }
+{
+    let name = name_of(named, frame);
+    let q = ask(order, class, given, local);
+    answered(llfree::get(h, table, trees, locals, bits, name, q))
+}
+
+// A put of the block at a frame.
+#[no_mangle]
+pub extern "C" fn llfree_put(
+    h: Header,
+    table: &[u32; 64],
+    trees: &mut [u32],
+    locals: &mut [u64],
+    bits: &mut [u64],
+    frame: usize,
+    order: usize,
+    class: usize,
+    given: bool,
+    local: usize,
+) -> usize
+    ensures { λ r. ⌜ telling r 0 0 (fresh (now (trees .exit)) (now (locals .exit)) (now (bits .exit)))
+      ≡ put (config h (now (table .entry))) (asking order class given local) frame (now (trees .entry)) (now (locals .entry)) (now (bits .entry)) ⌝ }
+{
+    let q = ask(order, class, given, local);
+    number(llfree::put(h, table, trees, locals, bits, frame, q))
+}
+
+// Every reservation is returned.
+#[no_mangle]
+pub extern "C" fn llfree_drain(
+    h: Header,
+    table: &[u32; 64],
+    trees: &mut [u32],
+    locals: &mut [u64],
+    bits: &mut [u64],
+) -> usize
+    ensures { λ r. ⌜ telling r 0 0 (fresh (now (trees .exit)) (now (locals .exit)) (now (bits .exit)))
+      ≡ drain (config h (now (table .entry))) (now (trees .entry)) (now (locals .entry)) (now (bits .entry)) ⌝ }
+{
+    number(llfree::drain(h, table, trees, locals, bits))
+}
