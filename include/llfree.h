@@ -104,11 +104,12 @@ struct llfree_tally {
     uint64_t used;  /* frames in use: 2,048 for each tree of the class, less those entries' free, less the free of the reservations on them */
 };
 
-/* What statistics answer. A refused call returns zeros for both. */
-struct llfree_totals {
-    uint64_t number; /* Done, Broken or Rows */
-    uint64_t free;   /* total free: entries and locals */
-    uint64_t trees;  /* free trees: each entry's and each local's free / 2,048, rounded down, then summed */
+/* What statistics answer. A refused call returns zeros. */
+struct llfree_report {
+    uint64_t number;             /* Done, Broken or Rows */
+    uint64_t free;               /* total free: entries and locals */
+    uint64_t trees;              /* free trees: each entry's and each local's free / 2,048, rounded down, then summed */
+    struct llfree_tally rows[8]; /* one for each class */
 };
 
 /*
@@ -147,17 +148,12 @@ uint64_t llfree_drain(struct llfree_header header, const uint32_t table[64],
                       uint32_t *trees, size_t trees_len, uint64_t *locals, size_t locals_len,
                       uint64_t *bits, size_t bits_len);
 
-/* Statistics are declared for archives that export them. */
-#ifdef LLFREE_STATISTICS
 /*
- * Statistics into eight tally rows, one for each class: Done, Broken, Rows. The words are only read.
- * Done writes all eight rows, also those of unconfigured classes; a refused call leaves the rows.
+ * Statistics: Done; Broken; Rows where `rows` is not 8. The words are only read; the eight rows come by value.
  */
-struct llfree_totals llfree_statistics(struct llfree_header header, const uint32_t table[64],
-                                       const uint32_t *trees, size_t trees_len, const uint64_t *locals,
-                                       size_t locals_len, const uint64_t *bits, size_t bits_len,
-                                       struct llfree_tally *rows, size_t rows_len);
-#endif
+struct llfree_report llfree_figures(struct llfree_header header, const uint32_t table[64],
+                                    const uint32_t *trees, size_t trees_len, const uint64_t *locals,
+                                    size_t locals_len, const uint64_t *bits, size_t bits_len, uint64_t rows);
 
 #ifdef __cplusplus
 }

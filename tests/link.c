@@ -101,14 +101,10 @@ int main(void) {
     right = llfree_drain(header, table, trees, n, locals, k, bits, w) == LLFREE_DONE;
     check("drain", right && locals[0] == 0 && trees[7] == 0x20000800);
     check("a length", llfree_drain(header, table, trees, n - 1, locals, k, bits, w) == LLFREE_BROKEN);
-#ifdef LLFREE_STATISTICS
-    struct llfree_tally rows[8];
-    memset(rows, 0xa5, sizeof rows);
-    struct llfree_totals t = llfree_statistics(header, table, trees, n, locals, k, bits, w, rows, 8);
-    right = t.number == LLFREE_DONE && t.free == 16384 && t.trees == 8 && rows[1].free == 16384 && rows[1].alloc == 0;
-    check("statistics", right && rows[1].used == 0 && rows[0].free == 0 && rows[7].used == 0);
-    t = llfree_statistics(header, table, trees, n, locals, k, bits, w, rows, 7);
-    check("rows", t.number == LLFREE_ROWS && t.free == 0 && t.trees == 0 && rows[1].free == 16384);
-#endif
+    struct llfree_report t = llfree_figures(header, table, trees, n, locals, k, bits, w, 8);
+    right = t.number == LLFREE_DONE && t.free == 16384 && t.trees == 8 && t.rows[1].free == 16384 && t.rows[1].alloc == 0;
+    check("statistics", right && t.rows[1].used == 0 && t.rows[0].free == 0 && t.rows[7].used == 0);
+    t = llfree_figures(header, table, trees, n, locals, k, bits, w, 7);
+    check("rows", t.number == LLFREE_ROWS && t.free == 0 && t.trees == 0 && t.rows[1].free == 0);
     return bad;
 }

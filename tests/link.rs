@@ -100,14 +100,10 @@ fn main() {
     right &= s.frames().put(14336, q) == Ok(());
     check("put", right && s.locals[0] == 0x8080_0000_0000_00E0 && s.bits[224] == 0);
     check("drain", s.frames().drain() == Ok(()) && s.locals[0] == 0 && s.trees[7] == 0x2000_0800);
-    #[cfg(llfree_statistics)]
-    {
-        use llfree::{Tally, Totals};
-        let mut rows = [Tally { free: 5, alloc: 5, used: 5 }; 8];
-        let right = s.frames().statistics(&mut rows) == Ok(Totals { free: 16384, trees: 8 });
-        check("statistics", right && rows[1] == Tally { free: 16384, alloc: 0, used: 0 } && rows[0] == Tally::default());
-        check("rows", s.frames().statistics(&mut rows[..7]) == Err(Refusal::Rows) && rows[1].free == 16384);
-    }
+    let all = s.frames().figures(8).expect("statistics");
+    let right = all.free == 16384 && all.trees == 8 && all.rows[1] == llfree::Tally { free: 16384, alloc: 0, used: 0 };
+    check("statistics", right && all.rows[0] == llfree::Tally::default());
+    check("rows", s.frames().figures(7) == Err(Refusal::Rows));
     s.trees.pop();
     check("a length", s.frames().drain() == Err(Refusal::Broken));
     std::process::exit(bad);

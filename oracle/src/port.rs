@@ -45,7 +45,7 @@ unsafe extern "C" {
     fn llfree_put(h: Header, table: *const u32, t: *mut u32, tn: usize, l: *mut u64, ln: usize, b: *mut u64, bn: usize,
         frame: usize, order: usize, class: usize, given: bool, local: usize) -> usize;
     fn llfree_drain(h: Header, table: *const u32, t: *mut u32, tn: usize, l: *mut u64, ln: usize, b: *mut u64, bn: usize) -> usize;
-    fn llfree_statistics(h: Header, table: *const u32, t: *const u32, tn: usize, l: *const u64, ln: usize, b: *const u64, bn: usize, rows: usize) -> Report;
+    fn llfree_figures(h: Header, table: *const u32, t: *const u32, tn: usize, l: *const u64, ln: usize, b: *const u64, bn: usize, rows: usize) -> Report;
 }
 
 pub struct Port;
@@ -97,7 +97,7 @@ impl Engine for Port {
     fn stats(&mut self, s: &mut State) -> Said<Counted> {
         let (h, p, n) = (header(s), table(s), s.rows);
         let (t, tn, l, ln, b, bn) = lent(s);
-        let a = unsafe { llfree_statistics(h, p.as_ptr(), t, tn, l, ln, b, bn, n) };
+        let a = unsafe { llfree_figures(h, p.as_ptr(), t, tn, l, ln, b, bn, n) };
         let rows = a.rows.map(|r| Tally { free: r.free as u64, alloc: r.alloc as u64, used: r.used as u64 });
         Said::Is(Counted { number: a.number as u8, free: a.free as u64, trees: a.trees as u64, rows })
     }

@@ -166,11 +166,12 @@ pub struct Tally {
     pub used: u64,
 }
 
-/// Total free and free trees.
+/// Total free, free trees, and a row for each class.
 #[derive(Clone, Copy, PartialEq, Eq, Debug)]
-pub struct Totals {
+pub struct Figures {
     pub free: u64,
     pub trees: u64,
+    pub rows: [Tally; 8],
 }
 
 #[repr(C)]
@@ -182,12 +183,12 @@ struct RawReply {
     tries: u64,
 }
 
-#[cfg(llfree_statistics)]
 #[repr(C)]
-struct RawTotals {
+struct RawReport {
     number: u64,
     free: u64,
     trees: u64,
+    rows: [Tally; 8],
 }
 
 unsafe extern "C" {
@@ -195,8 +196,7 @@ unsafe extern "C" {
     fn llfree_get(h: Header, table: *const u32, trees: *mut u32, n: usize, locals: *mut u64, k: usize, bits: *mut u64, w: usize, named: bool, frame: u64, order: u64, class: u64, given: bool, local: u64) -> RawReply;
     fn llfree_put(h: Header, table: *const u32, trees: *mut u32, n: usize, locals: *mut u64, k: usize, bits: *mut u64, w: usize, frame: u64, order: u64, class: u64, given: bool, local: u64) -> u64;
     fn llfree_drain(h: Header, table: *const u32, trees: *mut u32, n: usize, locals: *mut u64, k: usize, bits: *mut u64, w: usize) -> u64;
-    #[cfg(llfree_statistics)]
-    fn llfree_statistics(h: Header, table: *const u32, trees: *const u32, n: usize, locals: *const u64, k: usize, bits: *const u64, w: usize, rows: *mut Tally, r: usize) -> RawTotals;
+    fn llfree_figures(h: Header, table: *const u32, trees: *const u32, n: usize, locals: *const u64, k: usize, bits: *const u64, w: usize, rows: u64) -> RawReport;
 }
 
 /// Header, table and the lent words. Exact lengths are `header.trees()`, `header.locals()` and `header.words()`.
@@ -253,15 +253,14 @@ impl Frames<'_> {
         })
     }
 
-    /// Statistics into eight rows, one for each class, for archives that export them.
-    #[cfg(llfree_statistics)]
-    pub fn statistics(&self, rows: &mut [Tally]) -> Result<Totals, Refusal> {
+    /// Statistics, where so many rows are wanted: eight, one for each class.
+    pub fn figures(&self, rows: u64) -> Result<Figures, Refusal> {
         let r = unsafe {
-            llfree_statistics(
+            llfree_figures(
                 self.header, self.table.0.as_ptr(), self.trees.as_ptr(), self.trees.len(), self.locals.as_ptr(),
-                self.locals.len(), self.bits.as_ptr(), self.bits.len(), rows.as_mut_ptr(), rows.len(),
+                self.locals.len(), self.bits.as_ptr(), self.bits.len(), rows,
             )
         };
-        Refusal::of(r.number).map(|()| Totals { free: r.free, trees: r.trees })
+        Refusal::of(r.number).map(|()| Figures { free: r.free, trees: r.trees, rows: r.rows })
     }
 }

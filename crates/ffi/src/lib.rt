@@ -3,6 +3,7 @@ use rules::Given;
 use rules::Header;
 use rules::Name;
 use rules::Request;
+use tallies::Rows;
 use ways::Granted;
 use ways::Outcome;
 use ways::Refusal;
@@ -13,7 +14,9 @@ ghost use Prim.Native.Nat.{ℕ};
 ghost use Rattle.rules.specs.Words.{config};
 ghost use Rattle.ways.specs.State.{st};
 ghost use Rattle.ways.specs.Calls.{numberOf, outcomeOf, telling, fresh, toldGet, start, get, put, drain};
+ghost use Rattle.statistics.specs.Report.{reportOf};
 ghost use Rattle.ffi.specs.Args.{nameOf, givenOf, asking};
+ghost use Rattle.ffi.specs.Figures.{figuresOf};
 
 // What a get answers: the number, the frame and the class (0 and 0 where it is refused), and the counts.
 #[repr(C)]
@@ -23,6 +26,15 @@ pub struct Answer {
     pub class: usize,
     pub looks: usize,
     pub tries: usize,
+}
+
+// What statistics answer: the number, total free, free trees, and the rows of the eight classes; zeros where it is refused.
+#[repr(C)]
+pub struct Figures {
+    pub number: usize,
+    pub free: usize,
+    pub trees: usize,
+    pub rows: Rows,
 }
 
 // The number of a refusal.
@@ -181,4 +193,28 @@ pub extern "C" fn llfree_drain(
       ≡ drain (config h (now (table .entry))) (now (trees .entry)) (now (locals .entry)) (now (bits .entry)) ⌝ }
 {
     number(llfree::drain(h, table, trees, locals, bits))
+}
+
+// Statistics, where so many tally rows are to be filled: the rows come by value.
+#[no_mangle]
+pub extern "C" fn llfree_figures(
+    h: Header,
+    table: &[u32; 64],
+    trees: &[u32],
+    locals: &[u64],
+    bits: &[u64],
+    rows: usize,
+) -> Figures
+    ensures { λ r. ⌜ r ≡ figuresOf (reportOf (config h (now (table .entry))) (now (trees .entry)) (now (locals .entry)) (now (bits .entry)) rows) ⌝ }
+{
+    let told = statistics::tell(h, table, trees, locals, bits, rows);
+    let totals = told.totals;
+    let outcome = totals.outcome;
+    let all = told.rows;
+    Figures {
+        number: number(outcome),
+        free: totals.free,
+        trees: totals.trees,
+        rows: all,
+    }
 }

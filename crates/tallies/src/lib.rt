@@ -174,6 +174,7 @@ pub fn totals(h: Header, table: &[u32; 64], trees: &[u32], locals: &[u64]) -> Wh
 }
 
 // The eight rows, one for each class.
+#[repr(C)]
 pub struct Rows {
     pub r0: Tally,
     pub r1: Tally,
