@@ -8,12 +8,15 @@ use ways::Outcome;
 use ways::Refusal;
 use ways::Reply;
 use ways::Routed;
+use ways::Totals;
 ghost use mathlib.Core.Path.{_≡_};
 ghost use mathlib.Core.List.{List};
 ghost use Prim.Native.Nat.{ℕ};
 ghost use Rattle.ways.specs.declared.Granted.the-variants as Granted;
 ghost use Rattle.ways.specs.State.{ended};
 ghost use Rattle.ways.specs.Calls.{toldGet, close, frameOf};
+ghost use Rattle.rules.specs.Words.{config};
+ghost use Rattle.llfree.specs.Totals.{totalsOf};
 ghost use Rattle.ways.specs.Promises.{words, StartPromise, GetPromise, PutPromise, DrainPromise};
 
 // A refused get names no frame and no class.
@@ -76,14 +79,14 @@ pub fn start(
     trees: &mut [u32],
     locals: &mut [u64],
     bits: &mut [u64],
-    all_free: bool,
+    free: bool,
 ) -> Outcome
-    ensures { λ r. ⌜ StartPromise h (now (table .entry)) all_free (words (now (trees .entry)) (now (locals .entry)) (now (bits .entry)))
+    ensures { λ r. ⌜ StartPromise h (now (table .entry)) free (words (now (trees .entry)) (now (locals .entry)) (now (bits .entry)))
       r (words (now (trees .exit)) (now (locals .exit)) (now (bits .exit))) ⌝ }
 {
     if accept::accepts(h, table) {
         if state::lengths_exact(h, table, trees, locals, bits) {
-            starts::start_body(h, trees, locals, bits, all_free);
+            starts::start_body(h, trees, locals, bits, free);
             return Outcome::Done;
         }
         return Outcome::Refused(Refusal::Config);
@@ -152,5 +155,38 @@ pub fn drain(
         drains::drain_body(h, table, trees, locals)
     } else {
         Outcome::Refused(Refusal::Broken)
+    }
+}
+
+// Statistics but for the rows: total free and free trees, where so many tally rows are lent.
+pub fn totals(
+    h: Header,
+    table: &[u32; 64],
+    trees: &[u32],
+    locals: &[u64],
+    bits: &[u64],
+    rows: usize,
+) -> Totals
+    ensures { λ r. ⌜ r ≡ totalsOf (config h (now (table .entry))) (now (trees .entry)) (now (locals .entry)) (now (bits .entry)) rows ⌝ }
+{
+    if state::stands(h, table, trees, locals, bits) {
+        if rows == 8 {
+            let whole = tallies::totals(h, table, trees, locals);
+            return Totals {
+                outcome: Outcome::Done,
+                free: whole.free,
+                trees: whole.trees,
+            };
+        }
+        return Totals {
+            outcome: Outcome::Refused(Refusal::Rows),
+            free: 0,
+            trees: 0,
+        };
+    }
+    Totals {
+        outcome: Outcome::Refused(Refusal::Broken),
+        free: 0,
+        trees: 0,
     }
 }

@@ -1,12 +1,12 @@
 -- What the argument tests have shown where they refuse nothing. Assumes nothing.
-use mathlib.Core.Path.{_≡_, refl, sym, _∙_}
-use mathlib.Core.Bool.{Bool, true, false}
+use mathlib.Core.Path.{_≡_}
+use mathlib.Core.Bool.{true, false}
 use mathlib.Core.List.{List}
-use Prim.Native.Nat.{ℕ, zero, suc, _+_, _-_, _%_, _^_, _<_, _≤_}
+use Prim.Native.Nat.{ℕ, _+_, _-_, _%_, _^_, _<_, _≤_}
 use native.Mathlib.Omega.{arith}
 use borrow.Author.Tests.{lt-ltb, le-ltb, ltb-true, ltb-false, eqb-true}
 use lib.Dec.{eqb, ltb}
-use Rattle.rules.specs.Base.{pick, ifte}
+use Rattle.rules.specs.Base.{ifte}
 use Rattle.rules.specs.Words.{Config, config, configured, localsOf}
 use Rattle.rules.specs.Policy.{accepted}
 use Rattle.rules.specs.declared.Header.{Header}
@@ -14,7 +14,7 @@ use Rattle.rules.specs.declared.Given.{Given}
 use Rattle.rules.specs.declared.Given.the-variants as Given
 use Rattle.rules.specs.declared.Request.{Request}
 use Rattle.policy_laws.specs.All.{by}
-use Rattle.policy_laws.specs.Accepted.{AcceptedConfig, accepted-says, locals-most}
+use Rattle.policy_laws.specs.Accepted.{accepted-says, locals-most}
 use Rattle.ways.specs.State.{indexOf}
 use Rattle.ways.specs.Calls.{refuseLocal, refuseClass, refusal}
 use Rattle.ways.specs.Fits.{Fits}

@@ -6,7 +6,7 @@ use ways::Outcome;
 use ways::Refusal;
 ghost use mathlib.Core.Path.{_≡_};
 ghost use mathlib.Core.List.{List};
-ghost use Prim.Native.Nat.{ℕ, _^_, _<_, _≤_};
+ghost use Prim.Native.Nat.{ℕ, _^_, _<_};
 ghost use Rattle.rules.specs.Words.{config};
 ghost use Rattle.rules.specs.Lower.{lowerPut};
 ghost use Rattle.ways.specs.State.{indexOf};

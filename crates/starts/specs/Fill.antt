@@ -1,6 +1,5 @@
 -- Laws of the loops: words written one after the other are a list of what was written. Assumes nothing.
 use mathlib.Core.Path.{_≡_, refl, ap, ap₂, sym, _∙_}
-use mathlib.Core.Bool.{Bool, true, false}
 use mathlib.Core.List.{List, [], _∷_}
 use mathlib.Core.Logic.{⊎-elim}
 use Prim.Native.Nat.{ℕ, zero, suc, _+_, _-_, _*_, _%_, _^_, _<_, _≤_}
@@ -8,12 +7,12 @@ use native.Mathlib.Nat.{add-zero, zero-add, eq-or-lt-of-le, mul-le-mul-right, on
 use native.Mathlib.Omega.{arith}
 use lib.ListN.{length, getD, set}
 use lib.Seq.{getD-set-same, getD-set-other}
-use lib.Dec.{leb, lit<}
+use lib.Dec.{lit<}
 use lib.Pow.{pow-pos, pow-lt, shl-exact}
 use borrow.Author.Tests.{le-leb, lt-leb}
 use Rattle.rules.specs.Base.{listed}
 use Rattle.rules.specs.Words.{treeCount}
-use Rattle.ways.specs.Calls.{atMost, freshWord}
+use Rattle.ways.specs.Calls.{atMost}
 
 -- the words before place t are f of their place
 abbrev pub Written : (ℕ → ℕ) → ℕ → List ℕ → Type 0

@@ -3,14 +3,13 @@ use rules::Header;
 use rules::Local;
 use ways::Tally;
 ghost use mathlib.Core.Path.{_≡_};
-ghost use mathlib.Core.List.{List};
-ghost use Prim.Native.Nat.{ℕ, _+_, _-_, _*_, _^_, _<_, _≤_};
+ghost use Prim.Native.Nat.{_+_, _-_, _*_, _^_, _<_, _≤_};
 ghost use lib.Dec.{eqb};
 ghost use lib.ListN.{length};
 ghost use Rattle.rules.specs.Base.{pick, sum};
-ghost use Rattle.rules.specs.Words.{config, localCount};
-ghost use Rattle.ways.specs.Statistics.{localFree, reservedFree, inUse, tally, totalFree, freeTrees};
-ghost use Rattle.tallies.specs.Rows.{rowsOf, rowList};
+ghost use Rattle.rules.specs.Words.{config};
+ghost use Rattle.ways.specs.Statistics.{localFree, reservedFree, tally, tallies, totalFree, freeTrees};
+ghost use Rattle.tallies.specs.Rows.{rowsOf};
 ghost use Rattle.tallies.specs.Sums.{freeAt, allocAt, treeAt, heldAt, entriesFree, entriesWhole, localsFree, localsWhole};
 
 // Of the entries of a class: their free, 2,048 less their free, their number.
@@ -188,7 +187,7 @@ pub struct Rows {
 }
 
 // The rows of all classes.
-pub fn all_rows(h: Header, table: &[u32; 64], trees: &[u32], locals: &[u64]) -> Rows
+pub fn all_rows<'a>(h: Header, table: &'a [u32; 64], trees: &'a [u32], locals: &'a [u64]) -> Rows
     requires { ⌜ h .frames ≤ 2 ^ 21 ⌝ }
     ensures { λ r. ⌜ r ≡ rowsOf (tally (config h (now (table .entry))) (now (trees .entry)) (now (locals .entry))) ⌝ }
 {
@@ -204,11 +203,18 @@ pub fn all_rows(h: Header, table: &[u32; 64], trees: &[u32], locals: &[u64]) -> 
     }
 }
 
-// The lent rows are these: proved by a walk of the code, as every function over a lent slice of structs is.
-pub fn set_rows(rows: &mut [Tally], all: Rows)
-    requires { ⌜ length (now rows) ≡ 8 ⌝ }
-    ensures { λ _. ⌜ now (rows .exit) ≡ rowList all ⌝ }
+// The lent rows, filled. A function over a lent slice of structs is proved by a walk of its code: so it is thin, one call and eight stores.
+pub fn fill_rows<'a, 'b>(
+    h: Header,
+    table: &'a [u32; 64],
+    trees: &'a [u32],
+    locals: &'a [u64],
+    rows: &'b mut [Tally],
+)
+    requires { ⌜ (h .frames ≤ 2 ^ 21) × (length (now rows) ≡ 8) ⌝ }
+    ensures { λ _. ⌜ now (rows .exit) ≡ tallies (config h (now (table .entry))) (now (trees .entry)) (now (locals .entry)) 0 8 ⌝ }
 {
+    let all = all_rows(h, table, trees, locals);
     rows[0] = all.r0;
     rows[1] = all.r1;
     rows[2] = all.r2;

@@ -1,0 +1,75 @@
+use mathlib.Core.Path.{sym, _∙_}
+use Rattle.ways.specs.Calls.{outcomeOf, numberOf}
+use Rattle.llfree.specs.Tested.{standing-accepted, default-small}
+use Rattle.rules.specs.Base.{ifte}
+use Rattle.ways.specs.Calls.{drain, ifStanding}
+use borrow.Author.Needs.{needs}
+use Rattle.llfree.proofs.drain.Statement.{statement}
+use Rattle.llfree.proofs.drain.Tie as tie
+use Rattle.llfree.proofs.drain.Reads as reads
+use Rattle.llfree.proofs.drain.Lts as lts
+use Rattle.drains.proofs.drain_body.Reads as drain-body-reads
+use Rattle.state.proofs.stands.Reads as stands-reads
+
+-- src/lib.rt:151:8
+stands-requires : tie.Need-stands-requires
+stands-requires c κs = search needs
+
+-- src/lib.rt:152:9
+drain-body-requires : tie.Need-drain-body-requires
+drain-body-requires c κs =
+    default-small _ _ (standing-accepted _ _ _ _ (sym (c .before .before .before .stands .ensures) ∙ c .before .before .if1 .taken))
+
+-- src/lib.rt:141:1
+same-length : tie.Need-same-length
+same-length c = search needs
+
+-- src/lib.rt:141:1
+same-length-2 : tie.Need-same-length-2
+same-length-2 c = search needs
+
+-- src/lib.rt:141:1
+same-length-3 : tie.Need-same-length-3
+same-length-3 c = search needs
+
+-- src/lib.rt:141:1
+returns : tie.Need-returns
+unfolding drain ifStanding ifte
+returns c =
+    rw (← c .before .before .before .before .before .before .before .before .stands .ensures,
+    c .before .before .before .before .before .before .before .if1 .taken)
+    (c .before .before .before .before .drain-body .ensures _)
+
+-- src/lib.rt:141:1
+same-length-4 : tie.Need-same-length-4
+same-length-4 c = search needs
+
+-- src/lib.rt:141:1
+same-length-5 : tie.Need-same-length-5
+same-length-5 c = search needs
+
+-- src/lib.rt:141:1
+same-length-6 : tie.Need-same-length-6
+same-length-6 c = search needs
+
+-- src/lib.rt:141:1
+returns-2 : tie.Need-returns-2
+unfolding drain ifStanding ifte outcomeOf numberOf
+returns-2 c =
+    rw (← c .before .stands .ensures,
+    c .if1 .left)
+
+pub drain-spec : {M : Type 1} → statement M
+drain-spec =
+    tie.close
+    (tie.spec
+    stands-requires
+    drain-body-requires
+    same-length
+    same-length-2
+    same-length-3
+    returns
+    same-length-4
+    same-length-5
+    same-length-6
+    returns-2)

@@ -1,0 +1,149 @@
+use mathlib.Core.Path.{sym, _∙_}
+use Rattle.ways.specs.Calls.{numberOf}
+use Rattle.puts.specs.Checked.{checked-fits}
+use Rattle.llfree.specs.Tested.{standing-accepted, done-checked, refusal-told}
+use Rattle.rules.specs.Base.{ifte}
+use Rattle.ways.specs.Calls.{get, ifStanding, unless, outcomeOf, tellGet}
+use borrow.Author.Needs.{needs}
+use Rattle.llfree.proofs.get.Statement.{statement}
+use Rattle.llfree.proofs.get.Tie as tie
+use Rattle.llfree.proofs.get.Reads as reads
+use Rattle.llfree.proofs.get.Lts as lts
+use Rattle.llfree.proofs.frame_of.Reads as frame-of-reads
+use Rattle.llfree.proofs.refused.Reads as refused-reads
+use Rattle.llfree.proofs.reply.Reads as reply-reads
+use Rattle.puts.proofs.check.Reads as check-reads
+use Rattle.routes.proofs.routes.Reads as routes-reads
+use Rattle.state.proofs.stands.Reads as stands-reads
+
+-- src/lib.rt:107:8
+stands-requires : tie.Need-stands-requires
+stands-requires c κs = search needs
+
+-- src/lib.rt:108:40
+frame-of-requires : tie.Need-frame-of-requires
+frame-of-requires c κs = search needs
+
+-- src/lib.rt:108:15
+check-requires : tie.Need-check-requires
+check-requires c κs = search needs
+
+-- src/lib.rt:109:61
+enum-told : tie.Need-enum-told
+enum-told c = search needs
+
+-- src/lib.rt:109:36
+routes-requires : tie.Need-routes-requires
+routes-requires c κs =
+    checked-fits _ _ _ _ (standing-accepted _ _ _ _ (sym (c .before .before .before .before .before .before .before .before .stands .ensures) ∙ c .before .before .before .before .before .before .before .if1 .taken))
+    (done-checked _ _ (c .before .before .before .before .before .check .ensures) (c .before .before .before .enum-told .given .1))
+
+-- src/lib.rt:109:30
+reply-requires : tie.Need-reply-requires
+reply-requires c κs = search needs
+
+-- src/lib.rt:110:30
+enum-known-x : tie.Need-enum-known-x
+enum-known-x c = search needs
+
+-- src/lib.rt:110:36
+refused-requires : tie.Need-refused-requires
+refused-requires c κs = search needs
+
+-- src/lib.rt:113:9
+refused-requires-2 : tie.Need-refused-requires-2
+refused-requires-2 c κs = search needs
+
+-- src/lib.rt:95:1
+same-length : tie.Need-same-length
+same-length c = search needs
+
+-- src/lib.rt:95:1
+same-length-2 : tie.Need-same-length-2
+same-length-2 c = search needs
+
+-- src/lib.rt:95:1
+same-length-3 : tie.Need-same-length-3
+same-length-3 c = search needs
+
+-- src/lib.rt:95:1
+returns : tie.Need-returns
+unfolding get ifStanding ifte unless outcomeOf tellGet
+returns c =
+    rw (← c .before .before .before .before .before .before .before .before .before .before .before .before .before .before .before .before .stands .ensures,
+    c .before .before .before .before .before .before .before .before .before .before .before .before .before .before .before .if1 .taken,
+    ← c .before .before .before .before .before .before .before .before .before .before .before .before .before .before .frame-of .ensures,
+    ← c .before .before .before .before .before .before .before .before .before .before .before .before .before .check .ensures,
+    c .before .before .before .before .before .before .before .before .before .before .before .enum-told .given .1,
+    ← c .before .before .before .before .before .before .before .routes .ensures)
+    (c .reply .ensures _ _ _)
+
+-- src/lib.rt:95:1
+same-length-4 : tie.Need-same-length-4
+same-length-4 c = search needs
+
+-- src/lib.rt:95:1
+same-length-5 : tie.Need-same-length-5
+same-length-5 c = search needs
+
+-- src/lib.rt:95:1
+same-length-6 : tie.Need-same-length-6
+same-length-6 c = search needs
+
+-- src/lib.rt:95:1
+returns-2 : tie.Need-returns-2
+unfolding get ifStanding ifte outcomeOf tellGet
+returns-2 c =
+    rw (← c .before .before .before .before .before .before .before .stands .ensures,
+    c .before .before .before .before .before .before .if1 .taken,
+    ← c .before .before .before .before .before .frame-of .ensures,
+    ← c .before .before .before .before .check .ensures,
+    c .before .before .x .given .1,
+    refusal-told,
+    c .refused .ensures)
+
+-- src/lib.rt:95:1
+same-length-7 : tie.Need-same-length-7
+same-length-7 c = search needs
+
+-- src/lib.rt:95:1
+same-length-8 : tie.Need-same-length-8
+same-length-8 c = search needs
+
+-- src/lib.rt:95:1
+same-length-9 : tie.Need-same-length-9
+same-length-9 c = search needs
+
+-- src/lib.rt:95:1
+returns-3 : tie.Need-returns-3
+unfolding get ifStanding ifte outcomeOf tellGet numberOf
+returns-3 c =
+    rw (← c .before .before .stands .ensures,
+    c .before .if1 .left,
+    c .refused2 .ensures)
+
+pub get-spec : {M : Type 1} → statement M
+get-spec =
+    tie.close
+    (tie.spec
+    stands-requires
+    frame-of-requires
+    check-requires
+    enum-told
+    routes-requires
+    reply-requires
+    enum-known-x
+    refused-requires
+    refused-requires-2
+    same-length
+    same-length-2
+    same-length-3
+    returns
+    same-length-4
+    same-length-5
+    same-length-6
+    returns-2
+    same-length-7
+    same-length-8
+    same-length-9
+    returns-3)

@@ -1,0 +1,121 @@
+use mathlib.Core.Path.{sym, _∙_}
+use Rattle.ways.specs.Calls.{numberOf}
+use Rattle.puts.specs.Checked.{checked-fits}
+use Rattle.llfree.specs.Tested.{standing-accepted, done-checked, refusal-told}
+use Rattle.rules.specs.Base.{ifte}
+use Rattle.ways.specs.Calls.{put, ifStanding, unless, outcomeOf}
+use borrow.Author.Needs.{needs}
+use Rattle.llfree.proofs.put.Statement.{statement}
+use Rattle.llfree.proofs.put.Tie as tie
+use Rattle.llfree.proofs.put.Reads as reads
+use Rattle.llfree.proofs.put.Lts as lts
+use Rattle.puts.proofs.check.Reads as check-reads
+use Rattle.puts.proofs.put_body.Reads as put-body-reads
+use Rattle.state.proofs.stands.Reads as stands-reads
+
+-- src/lib.rt:130:8
+stands-requires : tie.Need-stands-requires
+stands-requires c κs = search needs
+
+-- src/lib.rt:131:15
+check-requires : tie.Need-check-requires
+check-requires c κs = search needs
+
+-- src/lib.rt:132:55
+enum-told : tie.Need-enum-told
+enum-told c = search needs
+
+-- src/lib.rt:132:30
+put-body-requires : tie.Need-put-body-requires
+put-body-requires c κs =
+    checked-fits _ _ _ _ (standing-accepted _ _ _ _ (sym (c .before .before .before .before .before .before .before .stands .ensures) ∙ c .before .before .before .before .before .before .if1 .taken))
+    (done-checked _ _ (c .before .before .before .before .before .check .ensures) (c .before .before .before .enum-told .given .1))
+
+-- src/lib.rt:133:30
+enum-known-x : tie.Need-enum-known-x
+enum-known-x c = search needs
+
+-- src/lib.rt:118:1
+same-length : tie.Need-same-length
+same-length c = search needs
+
+-- src/lib.rt:118:1
+same-length-2 : tie.Need-same-length-2
+same-length-2 c = search needs
+
+-- src/lib.rt:118:1
+same-length-3 : tie.Need-same-length-3
+same-length-3 c = search needs
+
+-- src/lib.rt:118:1
+returns : tie.Need-returns
+unfolding put ifStanding ifte unless outcomeOf
+returns c =
+    rw (← c .before .before .before .before .before .before .before .before .before .before .before .before .before .before .stands .ensures,
+    c .before .before .before .before .before .before .before .before .before .before .before .before .before .if1 .taken,
+    ← c .before .before .before .before .before .before .before .before .before .before .before .before .check .ensures,
+    c .before .before .before .before .before .before .before .before .before .before .enum-told .given .1,
+    ← c .before .before .before .before .before .before .put-body .ensures)
+
+-- src/lib.rt:118:1
+same-length-4 : tie.Need-same-length-4
+same-length-4 c = search needs
+
+-- src/lib.rt:118:1
+same-length-5 : tie.Need-same-length-5
+same-length-5 c = search needs
+
+-- src/lib.rt:118:1
+same-length-6 : tie.Need-same-length-6
+same-length-6 c = search needs
+
+-- src/lib.rt:118:1
+returns-2 : tie.Need-returns-2
+unfolding put ifStanding ifte outcomeOf
+returns-2 c =
+    rw (← c .before .before .before .before .before .stands .ensures,
+    c .before .before .before .before .if1 .taken,
+    ← c .before .before .before .check .ensures,
+    c .before .x .given .1,
+    refusal-told)
+
+-- src/lib.rt:118:1
+same-length-7 : tie.Need-same-length-7
+same-length-7 c = search needs
+
+-- src/lib.rt:118:1
+same-length-8 : tie.Need-same-length-8
+same-length-8 c = search needs
+
+-- src/lib.rt:118:1
+same-length-9 : tie.Need-same-length-9
+same-length-9 c = search needs
+
+-- src/lib.rt:118:1
+returns-3 : tie.Need-returns-3
+unfolding put ifStanding ifte outcomeOf numberOf
+returns-3 c =
+    rw (← c .before .stands .ensures,
+    c .if1 .left)
+
+pub put-spec : {M : Type 1} → statement M
+put-spec =
+    tie.close
+    (tie.spec
+    stands-requires
+    check-requires
+    enum-told
+    put-body-requires
+    enum-known-x
+    same-length
+    same-length-2
+    same-length-3
+    returns
+    same-length-4
+    same-length-5
+    same-length-6
+    returns-2
+    same-length-7
+    same-length-8
+    same-length-9
+    returns-3)
