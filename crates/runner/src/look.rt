@@ -138,15 +138,25 @@ fn totals(h: Header, table: &[u32; 64], trees: &[u32], locals: &[u64], bits: &[u
     lines::put_byte(out, to, b'\n')
 }
 
-// The whole picture.
-pub fn look(h: Header, table: &[u32; 64], trees: &[u32], locals: &[u64], bits: &[u64], out: &mut [u8], at: usize) -> usize {
+// The header, and the signs of the map.
+fn heading(h: Header, out: &mut [u8], at: usize) -> usize {
     let to = lines::put_number(out, at, b"frames ", h.frames as u64);
     let to = lines::put_number(out, to, b", default class ", h.default as u64);
-    let to = lines::append(out, to, b"\ntrees: . free, 1 to 9 tenths held, # held; then the class; * reserved");
-    let to = map(trees, out, to);
-    let to = lines::append(out, crate::show::room(out, to), b"classes\n");
+    lines::append(out, to, b"\ntrees: . free, 1 to 9 tenths held, # none free; then the class; * reserved, its free is with a local")
+}
+
+// The classes and the reservations.
+fn holders(h: Header, locals: &[u64], out: &mut [u8], at: usize) -> usize {
+    let to = lines::append(out, at, b"classes\n");
     let to = class_lines(h, out, to);
-    let to = lines::append(out, crate::show::room(out, to), b"reservations\n");
-    let to = local_lines(locals, out, to);
+    let to = lines::append(out, to, b"reservations\n");
+    local_lines(locals, out, to)
+}
+
+// The whole picture.
+pub fn look(h: Header, table: &[u32; 64], trees: &[u32], locals: &[u64], bits: &[u64], out: &mut [u8], at: usize) -> usize {
+    let to = heading(h, out, at);
+    let to = map(trees, out, to);
+    let to = holders(h, locals, out, crate::show::room(out, to));
     totals(h, table, trees, locals, bits, out, crate::show::room(out, to))
 }

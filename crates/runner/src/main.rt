@@ -296,6 +296,22 @@ fn run_line(
     }
 }
 
+// One line, once there is room for its answer.
+fn line_in_room(
+    line: &[u8],
+    number: u64,
+    held: Held,
+    table: &mut [u32; 64],
+    trees: &mut [u32],
+    locals: &mut [u64],
+    bits: &mut [u64],
+    out: &mut [u8],
+    at: usize,
+) -> Stood {
+    let to = show::room(out, at);
+    run_line(line, number, held, table, trees, locals, bits, out, to)
+}
+
 // Where a run of lines leaves the store, the input and the number of lines.
 struct Ran {
     held: Held,
@@ -326,12 +342,13 @@ fn run_lines(
         if e < i {
             break;
         }
+        let next = e + 1;
         n = std::num::wrapping_add_u64(n, 1);
-        let stood = run_line(&s[i..e], n, now, table, trees, locals, bits, out, show::room(out, at));
+        let stood = line_in_room(&s[i..e], n, now, table, trees, locals, bits, out, at);
         let after = stood.held;
         now = after;
         at = stood.at;
-        i = e + 1;
+        i = next;
     }
     show::flush(out, at);
     Ran {
@@ -415,6 +432,54 @@ fn still_over(s: &[u8], over: bool) -> bool {
     false
 }
 
+// What is left to read once the rest of a line that is passed over is gone.
+struct Kept {
+    here: usize,
+    over: bool,
+}
+
+// Drops the rest of a line that is passed over.
+fn pass_over(buf: &mut [u8], total: usize, over: bool) -> Kept {
+    if total > buf.len() {
+        return Kept { here: 0, over: over };
+    }
+    let still = still_over(&buf[0..total], over);
+    let skip = passed(&buf[0..total], over);
+    let here = lines::keep(buf, skip, total);
+    Kept {
+        here: here,
+        over: still,
+    }
+}
+
+// The whole lines of what is left; an unfinished one is moved to the start.
+fn kept_lines(
+    buf: &mut [u8],
+    k: Kept,
+    t: Turned,
+    table: &mut [u32; 64],
+    trees: &mut [u32],
+    locals: &mut [u64],
+    bits: &mut [u64],
+    out: &mut [u8],
+) -> Turned {
+    let before = t.held;
+    let here = k.here;
+    if here > buf.len() {
+        return t;
+    }
+    let ran = run_lines(&buf[0..here], t.number, before, table, trees, locals, bits, out);
+    let held = ran.held;
+    let left = lines::keep(buf, ran.used, here);
+    Turned {
+        held: held,
+        have: left,
+        number: ran.number,
+        over: k.over,
+        ended: false,
+    }
+}
+
 // The lines that a read completes: `total` bytes stand in buf.
 fn some_lines(
     buf: &mut [u8],
@@ -426,24 +491,9 @@ fn some_lines(
     bits: &mut [u64],
     out: &mut [u8],
 ) -> Turned {
-    let before = t.held;
-    if total > buf.len() {
-        return t;
-    }
-    let over = still_over(&buf[0..total], t.over);
-    let skip = passed(&buf[0..total], t.over);
-    let here = lines::keep(buf, skip, total);
-    let ran = run_lines(&buf[0..here], t.number, before, table, trees, locals, bits, out);
-    let held = ran.held;
-    let left = lines::keep(buf, ran.used, here);
-    let next = Turned {
-        held: held,
-        have: left,
-        number: ran.number,
-        over: over,
-        ended: false,
-    };
-    if left < buf.len() {
+    let k = pass_over(buf, total, t.over);
+    let next = kept_lines(buf, k, t, table, trees, locals, bits, out);
+    if next.have < buf.len() {
         return next;
     }
     too_long(buf, next, out)
