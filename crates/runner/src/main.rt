@@ -480,6 +480,21 @@ fn kept_lines(
     }
 }
 
+// The whole lines among `total` bytes, after the rest of a line that is passed over.
+fn lines_here(
+    buf: &mut [u8],
+    total: usize,
+    t: Turned,
+    table: &mut [u32; 64],
+    trees: &mut [u32],
+    locals: &mut [u64],
+    bits: &mut [u64],
+    out: &mut [u8],
+) -> Turned {
+    let k = pass_over(buf, total, t.over);
+    kept_lines(buf, k, t, table, trees, locals, bits, out)
+}
+
 // The lines that a read completes: `total` bytes stand in buf.
 fn some_lines(
     buf: &mut [u8],
@@ -491,8 +506,7 @@ fn some_lines(
     bits: &mut [u64],
     out: &mut [u8],
 ) -> Turned {
-    let k = pass_over(buf, total, t.over);
-    let next = kept_lines(buf, k, t, table, trees, locals, bits, out);
+    let next = lines_here(buf, total, t, table, trees, locals, bits, out);
     if next.have < buf.len() {
         return next;
     }
