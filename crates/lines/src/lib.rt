@@ -2,6 +2,7 @@
 use rules::Given;
 use rules::Name;
 use rules::Request;
+
 mod print;
 mod sum;
 
@@ -35,10 +36,7 @@ fn plain(kind: usize) -> Arg {
 
 // A word that is a number.
 fn number(v: u64) -> Arg {
-    Arg {
-        kind: 2,
-        value: v,
-    }
+    Arg { kind: 2, value: v }
 }
 
 // A word, and the place past it.
@@ -77,18 +75,41 @@ pub enum Length {
 pub enum Setting {
     Frames(usize),
     Default(usize),
-    Class { class: usize, place: u8 },
-    Lend { trees: Length, locals: Length, bits: Length },
+    Class {
+        class: usize,
+        place: u8,
+    },
+    Lend {
+        trees: Length,
+        locals: Length,
+        bits: Length,
+    },
     Rows(usize),
 }
 
 // A line that stores words.
 pub enum Store {
-    Pair { at: usize, word: u32 },
-    Entry { at: usize, word: u32 },
-    Local { at: usize, word: u64 },
-    Word { at: usize, word: u64 },
-    Fill { from: usize, count: usize, word: u64 },
+    Pair {
+        at: usize,
+        word: u32,
+    },
+    Entry {
+        at: usize,
+        word: u32,
+    },
+    Local {
+        at: usize,
+        word: u64,
+    },
+    Word {
+        at: usize,
+        word: u64,
+    },
+    Fill {
+        from: usize,
+        count: usize,
+        word: u64,
+    },
 }
 
 // A call of the allocator.
@@ -621,7 +642,10 @@ fn get(w: Args) -> Command {
             name: Name::Frame(f as usize),
             q: q,
         }),
-        Optional::Nothing => Command::Call(Call::Get { name: Name::Any, q: q }),
+        Optional::Nothing => Command::Call(Call::Get {
+            name: Name::Any,
+            q: q,
+        }),
         Optional::Not => Command::Wrong,
     }
 }

@@ -106,7 +106,15 @@ pub fn reply(out: &mut [u8], at: usize, r: Reply) -> usize {
 }
 
 // A row of the statistics.
-fn row(h: Header, table: &[u32; 64], trees: &[u32], locals: &[u64], class: usize, out: &mut [u8], at: usize) -> usize
+fn row(
+    h: Header,
+    table: &[u32; 64],
+    trees: &[u32],
+    locals: &[u64],
+    class: usize,
+    out: &mut [u8],
+    at: usize,
+) -> usize
     requires { ⌜ class < 8 ⌝ }
 {
     if h.frames > 2097152 {
@@ -121,7 +129,14 @@ fn row(h: Header, table: &[u32; 64], trees: &[u32], locals: &[u64], class: usize
 }
 
 // The eight rows.
-fn rows(h: Header, table: &[u32; 64], trees: &[u32], locals: &[u64], out: &mut [u8], at: usize) -> usize {
+fn rows(
+    h: Header,
+    table: &[u32; 64],
+    trees: &[u32],
+    locals: &[u64],
+    out: &mut [u8],
+    at: usize,
+) -> usize {
     let mut to = at;
     let mut class = 0;
     while class < 8 {
@@ -132,7 +147,16 @@ fn rows(h: Header, table: &[u32; 64], trees: &[u32], locals: &[u64], out: &mut [
 }
 
 // The answer to statistics.
-pub fn stats(h: Header, table: &[u32; 64], trees: &[u32], locals: &[u64], bits: &[u64], lent: usize, out: &mut [u8], at: usize) -> usize {
+pub fn stats(
+    h: Header,
+    table: &[u32; 64],
+    trees: &[u32],
+    locals: &[u64],
+    bits: &[u64],
+    lent: usize,
+    out: &mut [u8],
+    at: usize,
+) -> usize {
     let t = llfree::totals(h, table, trees, locals, bits, lent);
     let o = t.outcome;
     let n = outcome_number(o);

@@ -108,7 +108,12 @@ fn class_line(h: Header, class: usize, out: &mut [u8], at: usize) -> usize
     if words::is_configured(h, class) {
         let to = lines::put_number(out, at, b"  class ", class as u64);
         let to = lines::put_number(out, to, b": locals ", words::locals_of(h, class) as u64);
-        let to = lines::put_number(out, to, b", the first is local ", words::first_slot(h, class) as u64);
+        let to = lines::put_number(
+            out,
+            to,
+            b", the first is local ",
+            words::first_slot(h, class) as u64,
+        );
         return lines::put_byte(out, to, b'\n');
     }
     at
@@ -126,7 +131,15 @@ fn class_lines(h: Header, out: &mut [u8], at: usize) -> usize {
 }
 
 // The totals, and whether the state stands.
-fn totals(h: Header, table: &[u32; 64], trees: &[u32], locals: &[u64], bits: &[u64], out: &mut [u8], at: usize) -> usize {
+fn totals(
+    h: Header,
+    table: &[u32; 64],
+    trees: &[u32],
+    locals: &[u64],
+    bits: &[u64],
+    out: &mut [u8],
+    at: usize,
+) -> usize {
     let t = llfree::totals(h, table, trees, locals, bits, 8);
     let o = t.outcome;
     let to = lines::append(out, at, b"state ");
@@ -142,7 +155,11 @@ fn totals(h: Header, table: &[u32; 64], trees: &[u32], locals: &[u64], bits: &[u
 fn heading(h: Header, out: &mut [u8], at: usize) -> usize {
     let to = lines::put_number(out, at, b"frames ", h.frames as u64);
     let to = lines::put_number(out, to, b", default class ", h.default as u64);
-    lines::append(out, to, b"\ntrees: . free, 1 to 9 tenths held, # none free; then the class; * reserved, its free is with a local")
+    lines::append(
+        out,
+        to,
+        b"\ntrees: . free, 1 to 9 tenths held, # none free; then the class; * reserved, its free is with a local",
+    )
 }
 
 // The classes and the reservations.
@@ -154,9 +171,25 @@ fn holders(h: Header, locals: &[u64], out: &mut [u8], at: usize) -> usize {
 }
 
 // The whole picture.
-pub fn look(h: Header, table: &[u32; 64], trees: &[u32], locals: &[u64], bits: &[u64], out: &mut [u8], at: usize) -> usize {
+pub fn look(
+    h: Header,
+    table: &[u32; 64],
+    trees: &[u32],
+    locals: &[u64],
+    bits: &[u64],
+    out: &mut [u8],
+    at: usize,
+) -> usize {
     let to = heading(h, out, at);
     let to = map(trees, out, to);
     let to = holders(h, locals, out, crate::show::room(out, to));
-    totals(h, table, trees, locals, bits, out, crate::show::room(out, to))
+    totals(
+        h,
+        table,
+        trees,
+        locals,
+        bits,
+        out,
+        crate::show::room(out, to),
+    )
 }

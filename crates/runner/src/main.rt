@@ -8,9 +8,11 @@ use lines::Setting;
 use lines::Show;
 use lines::Store;
 use rules::Header;
+
 mod answer;
 mod look;
 mod show;
+
 ghost use Prim.Native.Nat.{_+_, _≤_, _<_};
 ghost use lib.ListN.{length};
 
@@ -60,18 +62,28 @@ fn set(held: Held, s: Setting) -> Held {
     let h = held.h;
     let places = h.places;
     match s {
-        Setting::Frames(f) => with_header(held, Header {
-            frames: f,
-            default: h.default,
-            places: places,
-        }),
-        Setting::Default(d) => with_header(held, Header {
-            frames: h.frames,
-            default: d,
-            places: places,
-        }),
+        Setting::Frames(f) => with_header(
+            held,
+            Header {
+                frames: f,
+                default: h.default,
+                places: places,
+            },
+        ),
+        Setting::Default(d) => with_header(
+            held,
+            Header {
+                frames: h.frames,
+                default: d,
+                places: places,
+            },
+        ),
         Setting::Class { class, place } => with_header(held, placed(h, class, place)),
-        Setting::Lend { trees, locals, bits } => Held {
+        Setting::Lend {
+            trees,
+            locals,
+            bits,
+        } => Held {
             h: h,
             trees: held_length(trees),
             locals: held_length(locals),
@@ -228,11 +240,29 @@ fn call_lent(
     if b > bits.len() {
         return at;
     }
-    call(held, table, &mut trees[0..t], &mut locals[0..l], &mut bits[0..b], c, out, at)
+    call(
+        held,
+        table,
+        &mut trees[0..t],
+        &mut locals[0..l],
+        &mut bits[0..b],
+        c,
+        out,
+        at,
+    )
 }
 
 // A line that only looks, at the words lent.
-fn show_lent(held: Held, table: &[u32; 64], trees: &[u32], locals: &[u64], bits: &[u64], s: Show, out: &mut [u8], at: usize) -> usize {
+fn show_lent(
+    held: Held,
+    table: &[u32; 64],
+    trees: &[u32],
+    locals: &[u64],
+    bits: &[u64],
+    s: Show,
+    out: &mut [u8],
+    at: usize,
+) -> usize {
     let h = held.h;
     let t = lent_trees(held);
     let l = lent_locals(held);
@@ -441,7 +471,10 @@ struct Kept {
 // Drops the rest of a line that is passed over.
 fn pass_over(buf: &mut [u8], total: usize, over: bool) -> Kept {
     if total > buf.len() {
-        return Kept { here: 0, over: over };
+        return Kept {
+            here: 0,
+            over: over,
+        };
     }
     let still = still_over(&buf[0..total], over);
     let skip = passed(&buf[0..total], over);
@@ -468,7 +501,16 @@ fn kept_lines(
     if here > buf.len() {
         return t;
     }
-    let ran = run_lines(&buf[0..here], t.number, before, table, trees, locals, bits, out);
+    let ran = run_lines(
+        &buf[0..here],
+        t.number,
+        before,
+        table,
+        trees,
+        locals,
+        bits,
+        out,
+    );
     let held = ran.held;
     let left = lines::keep(buf, ran.used, here);
     Turned {
@@ -515,9 +557,18 @@ fn some_lines(
 
 // What there is to say where there is no input at all.
 fn usage() {
-    io::write_all(STDOUT_FILENO, b"runner: a frame allocator's calls, one a line, on one store of up to 200 trees.\n");
-    io::write_all(STDOUT_FILENO, b"Use: runner < LINES > ANSWERS; lines: frames, default, class, pair, start, get, put, drain, stats, look.\n");
-    io::write_all(STDOUT_FILENO, b"Every line and answer is described, with examples, in docs/LINES.md.\n");
+    io::write_all(
+        STDOUT_FILENO,
+        b"runner: a frame allocator's calls, one a line, on one store of up to 200 trees.\n",
+    );
+    io::write_all(
+        STDOUT_FILENO,
+        b"Use: runner < LINES > ANSWERS; lines: frames, default, class, pair, start, get, put, drain, stats, look.\n",
+    );
+    io::write_all(
+        STDOUT_FILENO,
+        b"Every line and answer is described, with examples, in docs/LINES.md.\n",
+    );
 }
 
 // The end of the input.
@@ -616,5 +667,12 @@ fn main() {
     let mut bits = [0u64; 6400];
     let mut buf = io::large_buffer();
     let mut out = io::large_buffer();
-    run(&mut buf, &mut table, &mut trees, &mut locals, &mut bits, &mut out);
+    run(
+        &mut buf,
+        &mut table,
+        &mut trees,
+        &mut locals,
+        &mut bits,
+        &mut out,
+    );
 }

@@ -8,7 +8,10 @@ ghost use lib.ListN.{length};
 pub fn flush(out: &[u8], at: usize) {
     if at <= out.len() {
         if !io::write_all(STDOUT_FILENO, &out[0..at]) {
-            io::write_all(STDERR_FILENO, b"runner: standard output cannot be written\n");
+            io::write_all(
+                STDERR_FILENO,
+                b"runner: standard output cannot be written\n",
+            );
         }
     }
 }
