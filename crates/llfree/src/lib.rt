@@ -82,7 +82,7 @@ pub fn start(
     free: bool,
 ) -> Outcome
     ensures { λ r. ⌜ StartPromise h (now (table .entry)) free (words (now (trees .entry)) (now (locals .entry)) (now (bits .entry)))
-        r (words (now (trees .exit)) (now (locals .exit)) (now (bits .exit))) ⌝ }
+      r (words (now (trees .exit)) (now (locals .exit)) (now (bits .exit))) ⌝ }
 {
     if accept::accepts(h, table) {
         if state::lengths_exact(h, table, trees, locals, bits) {
@@ -105,7 +105,7 @@ pub fn get(
     q: Request,
 ) -> Reply
     ensures { λ r. ⌜ GetPromise h (now (table .entry)) name q (words (now (trees .entry)) (now (locals .entry)) (now (bits .entry)))
-        r (words (now (trees .exit)) (now (locals .exit)) (now (bits .exit))) ⌝ }
+      r (words (now (trees .exit)) (now (locals .exit)) (now (bits .exit))) ⌝ }
 {
     if state::stands(h, table, trees, locals, bits) {
         match puts::check(h, table, q, frame_of(name)) {
@@ -128,7 +128,7 @@ pub fn put(
     q: Request,
 ) -> Outcome
     ensures { λ r. ⌜ PutPromise h (now (table .entry)) frame q (words (now (trees .entry)) (now (locals .entry)) (now (bits .entry)))
-        r (words (now (trees .exit)) (now (locals .exit)) (now (bits .exit))) ⌝ }
+      r (words (now (trees .exit)) (now (locals .exit)) (now (bits .exit))) ⌝ }
 {
     if state::stands(h, table, trees, locals, bits) {
         match puts::check(h, table, q, frame) {
@@ -149,7 +149,7 @@ pub fn drain(
     bits: &mut [u64],
 ) -> Outcome
     ensures { λ r. ⌜ DrainPromise h (now (table .entry)) (words (now (trees .entry)) (now (locals .entry)) (now (bits .entry)))
-        r (words (now (trees .exit)) (now (locals .exit)) (now (bits .exit))) ⌝ }
+      r (words (now (trees .exit)) (now (locals .exit)) (now (bits .exit))) ⌝ }
 {
     if state::stands(h, table, trees, locals, bits) {
         drains::drain_body(h, table, trees, locals)

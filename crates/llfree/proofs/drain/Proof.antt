@@ -36,10 +36,8 @@ same-length-3 c = search needs
 returns : tie.Need-returns
 unfolding drain ifStanding ifte
 returns c =
-    rw (
-      ← c .before .before .before .before .before .before .before .before .stands .ensures,
-      c .before .before .before .before .before .before .before .if1 .taken,
-    )
+    rw (← c .before .before .before .before .before .before .before .before .stands .ensures,
+    c .before .before .before .before .before .before .before .if1 .taken)
     (c .before .before .before .before .drain-body .ensures _)
 
 -- src/lib.rt:141:1
@@ -58,10 +56,8 @@ same-length-6 c = search needs
 returns-2 : tie.Need-returns-2
 unfolding drain ifStanding ifte outcomeOf numberOf
 returns-2 c =
-    rw (
-      ← c .before .stands .ensures,
-      c .if1 .left,
-    )
+    rw (← c .before .stands .ensures,
+    c .if1 .left)
 
 pub drain-spec : {M : Type 1} → statement M
 drain-spec =

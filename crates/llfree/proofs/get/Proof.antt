@@ -70,14 +70,12 @@ same-length-3 c = search needs
 returns : tie.Need-returns
 unfolding get ifStanding ifte unless outcomeOf tellGet
 returns c =
-    rw (
-      ← c .before .before .before .before .before .before .before .before .before .before .before .before .before .before .before .before .stands .ensures,
-      c .before .before .before .before .before .before .before .before .before .before .before .before .before .before .before .if1 .taken,
-      ← c .before .before .before .before .before .before .before .before .before .before .before .before .before .before .frame-of .ensures,
-      ← c .before .before .before .before .before .before .before .before .before .before .before .before .before .check .ensures,
-      c .before .before .before .before .before .before .before .before .before .before .before .enum-told .given .1,
-      ← c .before .before .before .before .before .before .before .routes .ensures,
-    )
+    rw (← c .before .before .before .before .before .before .before .before .before .before .before .before .before .before .before .before .stands .ensures,
+    c .before .before .before .before .before .before .before .before .before .before .before .before .before .before .before .if1 .taken,
+    ← c .before .before .before .before .before .before .before .before .before .before .before .before .before .before .frame-of .ensures,
+    ← c .before .before .before .before .before .before .before .before .before .before .before .before .before .check .ensures,
+    c .before .before .before .before .before .before .before .before .before .before .before .enum-told .given .1,
+    ← c .before .before .before .before .before .before .before .routes .ensures)
     (c .reply .ensures _ _ _)
 
 -- src/lib.rt:95:1
@@ -96,15 +94,13 @@ same-length-6 c = search needs
 returns-2 : tie.Need-returns-2
 unfolding get ifStanding ifte outcomeOf tellGet
 returns-2 c =
-    rw (
-      ← c .before .before .before .before .before .before .before .stands .ensures,
-      c .before .before .before .before .before .before .if1 .taken,
-      ← c .before .before .before .before .before .frame-of .ensures,
-      ← c .before .before .before .before .check .ensures,
-      c .before .before .x .given .1,
-      refusal-told,
-      c .refused .ensures,
-    )
+    rw (← c .before .before .before .before .before .before .before .stands .ensures,
+    c .before .before .before .before .before .before .if1 .taken,
+    ← c .before .before .before .before .before .frame-of .ensures,
+    ← c .before .before .before .before .check .ensures,
+    c .before .before .x .given .1,
+    refusal-told,
+    c .refused .ensures)
 
 -- src/lib.rt:95:1
 same-length-7 : tie.Need-same-length-7
@@ -122,11 +118,9 @@ same-length-9 c = search needs
 returns-3 : tie.Need-returns-3
 unfolding get ifStanding ifte outcomeOf tellGet numberOf
 returns-3 c =
-    rw (
-      ← c .before .before .stands .ensures,
-      c .before .if1 .left,
-      c .refused2 .ensures,
-    )
+    rw (← c .before .before .stands .ensures,
+    c .before .if1 .left,
+    c .refused2 .ensures)
 
 pub get-spec : {M : Type 1} → statement M
 get-spec =

@@ -51,13 +51,11 @@ same-length-3 c = search needs
 returns : tie.Need-returns
 unfolding put ifStanding ifte unless outcomeOf
 returns c =
-    rw (
-      ← c .before .before .before .before .before .before .before .before .before .before .before .before .before .before .stands .ensures,
-      c .before .before .before .before .before .before .before .before .before .before .before .before .before .if1 .taken,
-      ← c .before .before .before .before .before .before .before .before .before .before .before .before .check .ensures,
-      c .before .before .before .before .before .before .before .before .before .before .enum-told .given .1,
-      ← c .before .before .before .before .before .before .put-body .ensures,
-    )
+    rw (← c .before .before .before .before .before .before .before .before .before .before .before .before .before .before .stands .ensures,
+    c .before .before .before .before .before .before .before .before .before .before .before .before .before .if1 .taken,
+    ← c .before .before .before .before .before .before .before .before .before .before .before .before .check .ensures,
+    c .before .before .before .before .before .before .before .before .before .before .enum-told .given .1,
+    ← c .before .before .before .before .before .before .put-body .ensures)
 
 -- src/lib.rt:118:1
 same-length-4 : tie.Need-same-length-4
@@ -75,13 +73,11 @@ same-length-6 c = search needs
 returns-2 : tie.Need-returns-2
 unfolding put ifStanding ifte outcomeOf
 returns-2 c =
-    rw (
-      ← c .before .before .before .before .before .stands .ensures,
-      c .before .before .before .before .if1 .taken,
-      ← c .before .before .before .check .ensures,
-      c .before .x .given .1,
-      refusal-told,
-    )
+    rw (← c .before .before .before .before .before .stands .ensures,
+    c .before .before .before .before .if1 .taken,
+    ← c .before .before .before .check .ensures,
+    c .before .x .given .1,
+    refusal-told)
 
 -- src/lib.rt:118:1
 same-length-7 : tie.Need-same-length-7
@@ -99,10 +95,8 @@ same-length-9 c = search needs
 returns-3 : tie.Need-returns-3
 unfolding put ifStanding ifte outcomeOf numberOf
 returns-3 c =
-    rw (
-      ← c .before .stands .ensures,
-      c .if1 .left,
-    )
+    rw (← c .before .stands .ensures,
+    c .if1 .left)
 
 pub put-spec : {M : Type 1} → statement M
 put-spec =

@@ -43,12 +43,10 @@ same-length-3 c = search needs
 returns : tie.Need-returns
 unfolding start ifte outcomeOf
 returns c =
-    rw (
-      ← c .before .before .before .before .before .before .before .before .before .before .before .before .before .before .before .before .accepts .ensures,
-      c .before .before .before .before .before .before .before .before .before .before .before .before .before .before .before .if1 .taken,
-      ← c .before .before .before .before .before .before .before .before .before .before .before .lengths-exact .ensures,
-      c .before .before .before .before .before .before .before .before .before .before .if2 .taken,
-    )
+    rw (← c .before .before .before .before .before .before .before .before .before .before .before .before .before .before .before .before .accepts .ensures,
+    c .before .before .before .before .before .before .before .before .before .before .before .before .before .before .before .if1 .taken,
+    ← c .before .before .before .before .before .before .before .before .before .before .before .lengths-exact .ensures,
+    c .before .before .before .before .before .before .before .before .before .before .if2 .taken)
     (ap (λ (s : State). telling 0 0 0 s) (c .before .before .before .before .before .before .start-body .ensures _))
 
 -- src/lib.rt:89:9
@@ -67,21 +65,17 @@ same-length-6 c = search needs
 returns-2 : tie.Need-returns-2
 unfolding start ifte outcomeOf numberOf
 returns-2 c =
-    rw (
-      ← c .before .before .before .before .before .before .accepts .ensures,
-      c .before .before .before .before .before .if1 .taken,
-      ← c .before .lengths-exact .ensures,
-      c .if2 .left,
-    )
+    rw (← c .before .before .before .before .before .before .accepts .ensures,
+    c .before .before .before .before .before .if1 .taken,
+    ← c .before .lengths-exact .ensures,
+    c .if2 .left)
 
 -- src/lib.rt:73:1
 returns-3 : tie.Need-returns-3
 unfolding start ifte outcomeOf numberOf
 returns-3 c =
-    rw (
-      ← c .before .accepts .ensures,
-      c .if1 .left,
-    )
+    rw (← c .before .accepts .ensures,
+    c .if1 .left)
 
 pub start-spec : {M : Type 1} → statement M
 start-spec =

@@ -23,32 +23,26 @@ totals-requires c κs = frames-small _ _ (standing-accepted _ _ _ _ (sym (c .bef
 returns : tie.Need-returns
 unfolding totalsOf ifte
 returns c =
-    rw (
-      ← c .before .before .before .stands .ensures,
-      c .before .before .if1 .taken,
-      eq-eqb _ _ (c .before .if2 .taken),
-      ← c .totals .ensures .0,
-      ← c .totals .ensures .1,
-    )
+    rw (← c .before .before .before .stands .ensures,
+    c .before .before .if1 .taken,
+    eq-eqb _ _ (c .before .if2 .taken),
+    ← c .totals .ensures .0,
+    ← c .totals .ensures .1)
 
 -- src/lib.rt:181:9
 returns-2 : tie.Need-returns-2
 unfolding totalsOf ifte
 returns-2 c =
-    rw (
-      ← c .before .before .stands .ensures,
-      c .before .if1 .taken,
-      ne-eqb _ _ (c .if2 .left),
-    )
+    rw (← c .before .before .stands .ensures,
+    c .before .if1 .taken,
+    ne-eqb _ _ (c .if2 .left))
 
 -- src/lib.rt:162:1
 returns-3 : tie.Need-returns-3
 unfolding totalsOf ifte
 returns-3 c =
-    rw (
-      ← c .before .stands .ensures,
-      c .if1 .left,
-    )
+    rw (← c .before .stands .ensures,
+    c .if1 .left)
 
 pub totals-spec : {M : Type 1} → statement M
 totals-spec = tie.close (tie.spec stands-requires totals-requires returns returns-2 returns-3)

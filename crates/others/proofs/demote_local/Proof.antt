@@ -44,15 +44,11 @@ same-length-3 c = search needs
 -- src/lib.rt:259:1
 returns : tie.Need-returns
 unfolding demoteLocal
-returns c = (
-  rw (
-    ← c .before .before .before .before .before .before .before .before .before .before .before .before .index-of .ensures,
+returns c =
+    (rw (← c .before .before .before .before .before .before .before .before .before .before .before .before .index-of .ensures,
     ← c .before .before .before .before .before .before .before .before .before .before .before .frames .ensures,
     ← c .before .before .before .before .before .before .before .before .before .before .demote-any .ensures,
-    ← c .before .before .before .before .before .before .move-from .ensures .0,
-  ),
-  (search needs, search needs),
-)
+    ← c .before .before .before .before .before .before .move-from .ensures .0), (search needs, search needs))
 
 pub demote-local-spec : {M : Type 1} → statement M
 demote-local-spec =

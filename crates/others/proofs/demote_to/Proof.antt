@@ -79,18 +79,14 @@ same-length-3 c = search needs
 -- src/lib.rt:116:1
 returns : tie.Need-returns
 unfolding demoteTo onSwap unreserve unreserveLocal onTook stuck ifte withTrees withLocals
-returns c = (
-  rw (
-    c .before .before .before .before .before .before .before .before .before .before .before .before .before .before .before .before .before .before .before .before .before .before .before .before .before .local .given .1,
+returns c =
+    (rw (c .before .before .before .before .before .before .before .before .before .before .before .before .before .before .before .before .before .before .before .before .before .before .before .before .before .local .given .1,
     ← c .before .before .before .before .before .before .before .before .before .before .before .before .before .before .before .before .before .before .before .before .before .before .slot .ensures,
     ← c .before .before .before .before .before .before .before .before .before .before .before .before .before .before .before .before .before .before .before .before .before .swap .ensures .0,
     c .before .before .before .before .before .before .before .before .before .before .before .before .before .before .before .before .before .before .if1 .taken,
     ← c .before .before .before .before .before .before .before .before .before .before .before .before .before .before .before .unreserve .ensures,
     c .before .before .before .before .before .before .before .before .before .before .before .enum-told .given .1,
-    ← c .before .before .before .before .before .before .ask-lower .ensures .0,
-  ),
-  (search needs, search needs),
-)
+    ← c .before .before .before .before .before .before .ask-lower .ensures .0), (search needs, search needs))
 
 -- src/lib.rt:116:1
 same-length-4 : tie.Need-same-length-4
@@ -103,17 +99,13 @@ same-length-5 c = search needs
 -- src/lib.rt:116:1
 returns-2 : tie.Need-returns-2
 unfolding demoteTo onSwap unreserve unreserveLocal onTook stuck ifte withTrees withLocals
-returns-2 c = (
-  rw (
-    c .before .before .before .before .before .before .before .before .before .before .before .before .before .before .local .given .1,
+returns-2 c =
+    (rw (c .before .before .before .before .before .before .before .before .before .before .before .before .before .before .local .given .1,
     ← c .before .before .before .before .before .before .before .before .before .before .before .slot .ensures,
     ← c .before .before .before .before .before .before .before .before .before .before .swap .ensures .0,
     c .before .before .before .before .before .before .before .if1 .taken,
     ← c .before .before .before .before .unreserve .ensures,
-    c .enum-told2 .given .1,
-  ),
-  (search needs, search needs),
-)
+    c .enum-told2 .given .1), (search needs, search needs))
 
 -- src/lib.rt:116:1
 same-length-6 : tie.Need-same-length-6
@@ -130,16 +122,12 @@ same-length-8 c = search needs
 -- src/lib.rt:116:1
 returns-3 : tie.Need-returns-3
 unfolding demoteTo onSwap unreserve unreserveLocal onTook stuck ifte withTrees withLocals
-returns-3 c = (
-  rw (
-    c .before .before .before .before .before .before .before .before .before .before .before .before .before .before .before .before .before .before .local .given .1,
+returns-3 c =
+    (rw (c .before .before .before .before .before .before .before .before .before .before .before .before .before .before .before .before .before .before .local .given .1,
     ← c .before .before .before .before .before .before .before .before .before .before .before .before .before .before .before .slot .ensures,
     ← c .before .before .before .before .before .before .before .before .before .before .before .before .before .before .swap .ensures .0,
     c .before .before .before .before .before .before .before .before .before .before .before .if1 .left,
-    ← c .before .before .before .before .before .before .ask-lower2 .ensures .0,
-  ),
-  (search needs, search needs),
-)
+    ← c .before .before .before .before .before .before .ask-lower2 .ensures .0), (search needs, search needs))
 
 -- src/lib.rt:116:1
 same-length-9 : tie.Need-same-length-9
@@ -156,15 +144,11 @@ same-length-11 c = search needs
 -- src/lib.rt:116:1
 returns-4 : tie.Need-returns-4
 unfolding demoteTo onSwap unreserve unreserveLocal onTook stuck ifte withTrees withLocals
-returns-4 c = (
-  rw (
-    c .before .before .before .before .before .before .before .before .before .before .before .before .before .before .before .before .before .before .enum-told3 .given .1,
+returns-4 c =
+    (rw (c .before .before .before .before .before .before .before .before .before .before .before .before .before .before .before .before .before .before .enum-told3 .given .1,
     ← c .before .before .before .before .before .before .before .before .before .before .before .before .before .before .before .unreserve2 .ensures,
     c .before .before .before .before .before .before .before .before .before .before .before .enum-told4 .given .1,
-    ← c .before .before .before .before .before .before .ask-lower3 .ensures .0,
-  ),
-  (search needs, search needs),
-)
+    ← c .before .before .before .before .before .before .ask-lower3 .ensures .0), (search needs, search needs))
 
 -- src/lib.rt:116:1
 same-length-12 : tie.Need-same-length-12
@@ -173,14 +157,10 @@ same-length-12 c = search needs
 -- src/lib.rt:116:1
 returns-5 : tie.Need-returns-5
 unfolding demoteTo onSwap unreserve unreserveLocal onTook stuck ifte withTrees withLocals
-returns-5 c = (
-  rw (
-    c .before .before .before .before .before .before .before .enum-told3 .given .1,
+returns-5 c =
+    (rw (c .before .before .before .before .before .before .before .enum-told3 .given .1,
     ← c .before .before .before .before .unreserve2 .ensures,
-    c .enum-told5 .given .1,
-  ),
-  (search needs, search needs),
-)
+    c .enum-told5 .given .1), (search needs, search needs))
 
 pub demote-to-spec : {M : Type 1} → statement M
 demote-to-spec =

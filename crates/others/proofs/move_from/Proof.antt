@@ -71,17 +71,13 @@ same-length-3 c = search needs
 -- src/lib.rt:201:1
 returns-2 : tie.Need-returns-2
 unfolding moveFrom onHeld onSwap missed withLocals
-returns-2 c = (
-  rw (
-    c .before .before .before .before .before .before .before .before .before .before .before .before .before .before .before .before .before .before .before .before .before .before .payer .given .1,
+returns-2 c =
+    (rw (c .before .before .before .before .before .before .before .before .before .before .before .before .before .before .before .before .before .before .before .before .before .before .payer .given .1,
     ← c .before .before .before .before .before .before .before .before .before .before .before .before .before .before .before .before .before .before .before .frames .ensures,
     ← c .before .before .before .before .before .before .before .before .before .before .before .before .before .before .before .before .before .before .take .ensures,
     c .before .before .before .before .before .before .before .before .before .before .before .before .before .before .enum-told2 .given .1,
     ← c .before .before .before .before .before .before .before .before .before .before .before .before .clear .ensures .0,
-    ← c .before .before .before .before .before .before .demote-to .ensures .0,
-  ),
-  (search needs, search needs),
-)
+    ← c .before .before .before .before .before .before .demote-to .ensures .0), (search needs, search needs))
 
 -- src/lib.rt:201:1
 same-length-4 : tie.Need-same-length-4
@@ -90,15 +86,11 @@ same-length-4 c = search needs
 -- src/lib.rt:201:1
 returns-3 : tie.Need-returns-3
 unfolding moveFrom onHeld onSwap missed withLocals
-returns-3 c = (
-  rw (
-    c .before .before .before .before .before .before .before .before .payer .given .1,
+returns-3 c =
+    (rw (c .before .before .before .before .before .before .before .before .payer .given .1,
     ← c .before .before .before .before .before .frames .ensures,
     ← c .before .before .before .before .take .ensures,
-    c .enum-told3 .given .1,
-  ),
-  (search needs, search needs),
-)
+    c .enum-told3 .given .1), (search needs, search needs))
 
 -- src/lib.rt:201:1
 same-length-5 : tie.Need-same-length-5
@@ -107,15 +99,11 @@ same-length-5 c = search needs
 -- src/lib.rt:201:1
 returns-4 : tie.Need-returns-4
 unfolding moveFrom onHeld onSwap missed withLocals
-returns-4 c = (
-  rw (
-    c .before .before .before .before .before .before .before .before .payer .given .1,
+returns-4 c =
+    (rw (c .before .before .before .before .before .before .before .before .payer .given .1,
     ← c .before .before .before .before .before .frames .ensures,
     ← c .before .before .before .before .take .ensures,
-    c .enum-told4 .given .1,
-  ),
-  (search needs, search needs),
-)
+    c .enum-told4 .given .1), (search needs, search needs))
 
 pub move-from-spec : {M : Type 1} → statement M
 move-from-spec =

@@ -66,16 +66,12 @@ same-length-3 c = search needs
 -- src/lib.rt:31:1
 returns-2 : tie.Need-returns-2
 unfolding payFrom onHeld missed withLocals
-returns-2 c = (
-  rw (
-    c .before .before .before .before .before .before .before .before .before .before .before .before .before .before .before .before .before .before .before .payer .given .1,
+returns-2 c =
+    (rw (c .before .before .before .before .before .before .before .before .before .before .before .before .before .before .before .before .before .before .before .payer .given .1,
     ← c .before .before .before .before .before .before .before .before .before .before .before .before .before .before .before .before .frames .ensures,
     ← c .before .before .before .before .before .before .before .before .before .before .before .before .before .before .before .take .ensures,
     c .before .before .before .before .before .before .before .before .before .before .before .row .given .1,
-    ← c .before .before .before .before .before .before .ask-lower .ensures .0,
-  ),
-  (search needs, search needs),
-)
+    ← c .before .before .before .before .before .before .ask-lower .ensures .0), (search needs, search needs))
 
 -- src/lib.rt:31:1
 same-length-4 : tie.Need-same-length-4
@@ -84,15 +80,11 @@ same-length-4 c = search needs
 -- src/lib.rt:31:1
 returns-3 : tie.Need-returns-3
 unfolding payFrom onHeld missed withLocals
-returns-3 c = (
-  rw (
-    c .before .before .before .before .before .before .before .before .payer .given .1,
+returns-3 c =
+    (rw (c .before .before .before .before .before .before .before .before .payer .given .1,
     ← c .before .before .before .before .before .frames .ensures,
     ← c .before .before .before .before .take .ensures,
-    c .enum-told2 .given .1,
-  ),
-  (search needs, search needs),
-)
+    c .enum-told2 .given .1), (search needs, search needs))
 
 -- src/lib.rt:31:1
 same-length-5 : tie.Need-same-length-5
@@ -101,15 +93,11 @@ same-length-5 c = search needs
 -- src/lib.rt:31:1
 returns-4 : tie.Need-returns-4
 unfolding payFrom onHeld missed withLocals
-returns-4 c = (
-  rw (
-    c .before .before .before .before .before .before .before .before .payer .given .1,
+returns-4 c =
+    (rw (c .before .before .before .before .before .before .before .before .payer .given .1,
     ← c .before .before .before .before .before .frames .ensures,
     ← c .before .before .before .before .take .ensures,
-    c .enum-told3 .given .1,
-  ),
-  (search needs, search needs),
-)
+    c .enum-told3 .given .1), (search needs, search needs))
 
 pub pay-from-spec : {M : Type 1} → statement M
 pay-from-spec =

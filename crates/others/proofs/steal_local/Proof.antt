@@ -44,15 +44,11 @@ same-length-3 c = search needs
 -- src/lib.rt:86:1
 returns : tie.Need-returns
 unfolding stealLocal
-returns c = (
-  rw (
-    ← c .before .before .before .before .before .before .before .before .before .before .before .before .index-of .ensures,
+returns c =
+    (rw (← c .before .before .before .before .before .before .before .before .before .before .before .before .index-of .ensures,
     ← c .before .before .before .before .before .before .before .before .before .before .before .frames .ensures,
     ← c .before .before .before .before .before .before .before .before .before .before .steal-any .ensures,
-    ← c .before .before .before .before .before .before .pay-from .ensures .0,
-  ),
-  (search needs, search needs),
-)
+    ← c .before .before .before .before .before .before .pay-from .ensures .0), (search needs, search needs))
 
 pub steal-local-spec : {M : Type 1} → statement M
 steal-local-spec =

@@ -51,13 +51,9 @@ same-length-3 c = search needs
 -- src/lib.rt:70:1
 returns : tie.Need-returns
 unfolding getAt orElse
-returns c = (
-  rw (
-    ← c .before .before .before .before .before .before .before .before .own-local .ensures .0,
-    c .enum-told .given .1,
-  ),
-  (search needs, search needs),
-)
+returns c =
+    (rw (← c .before .before .before .before .before .before .before .before .own-local .ensures .0,
+    c .enum-told .given .1), (search needs, search needs))
 
 -- src/lib.rt:70:1
 same-length-4 : tie.Need-same-length-4
@@ -74,14 +70,10 @@ same-length-6 c = search needs
 -- src/lib.rt:70:1
 returns-2 : tie.Need-returns-2
 unfolding getAt orElse
-returns-2 c = (
-  rw (
-    ← c .before .before .before .before .before .before .before .before .before .before .before .before .before .before .before .before .before .before .own-local .ensures .0,
+returns-2 c =
+    (rw (← c .before .before .before .before .before .before .before .before .before .before .before .before .before .before .before .before .before .before .own-local .ensures .0,
     c .before .before .before .before .before .before .before .before .before .before .enum-told2 .given .1,
-    ← c .before .before .before .before .before .before .after-own .ensures .0,
-  ),
-  (search needs, search needs),
-)
+    ← c .before .before .before .before .before .before .after-own .ensures .0), (search needs, search needs))
 
 -- src/lib.rt:70:1
 same-length-7 : tie.Need-same-length-7
@@ -98,14 +90,10 @@ same-length-9 c = search needs
 -- src/lib.rt:70:1
 returns-3 : tie.Need-returns-3
 unfolding getAt orElse
-returns-3 c = (
-  rw (
-    ← c .before .before .before .before .before .before .before .before .before .before .before .before .before .before .before .before .before .before .own-local .ensures .0,
+returns-3 c =
+    (rw (← c .before .before .before .before .before .before .before .before .before .before .before .before .before .before .before .before .before .before .own-local .ensures .0,
     c .before .before .before .before .before .before .before .before .before .before .enum-told3 .given .1,
-    ← c .before .before .before .before .before .before .after-own2 .ensures .0,
-  ),
-  (search needs, search needs),
-)
+    ← c .before .before .before .before .before .before .after-own2 .ensures .0), (search needs, search needs))
 
 -- src/lib.rt:70:1
 same-length-10 : tie.Need-same-length-10
@@ -122,13 +110,9 @@ same-length-12 c = search needs
 -- src/lib.rt:70:1
 returns-4 : tie.Need-returns-4
 unfolding getAt orElse
-returns-4 c = (
-  rw (
-    ← c .before .before .before .before .before .before .before .before .own-local .ensures .0,
-    c .enum-told4 .given .1,
-  ),
-  (search needs, search needs),
-)
+returns-4 c =
+    (rw (← c .before .before .before .before .before .before .before .before .own-local .ensures .0,
+    c .enum-told4 .given .1), (search needs, search needs))
 
 pub get-at-spec : {M : Type 1} → statement M
 get-at-spec =

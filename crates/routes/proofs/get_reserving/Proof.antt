@@ -55,13 +55,9 @@ same-length-3 c = search needs
 -- src/lib.rt:126:1
 returns : tie.Need-returns
 unfolding getReserving orFrom
-returns c = (
-  rw (
-    ← c .before .before .before .before .before .before .before .before .get-local .ensures .0,
-    c .enum-told .given .1,
-  ),
-  (search needs, search needs),
-)
+returns c =
+    (rw (← c .before .before .before .before .before .before .before .before .get-local .ensures .0,
+    c .enum-told .given .1), (search needs, search needs))
 
 -- src/lib.rt:126:1
 same-length-4 : tie.Need-same-length-4
@@ -78,14 +74,10 @@ same-length-6 c = search needs
 -- src/lib.rt:126:1
 returns-2 : tie.Need-returns-2
 unfolding getReserving orFrom
-returns-2 c = (
-  rw (
-    ← c .before .before .before .before .before .before .before .before .before .before .before .before .before .before .before .before .before .before .get-local .ensures .0,
+returns-2 c =
+    (rw (← c .before .before .before .before .before .before .before .before .before .before .before .before .before .before .before .before .before .before .get-local .ensures .0,
     c .before .before .before .before .before .before .before .before .before .before .enum-told2 .given .1,
-    ← c .before .before .before .before .before .before .search-and-reserve .ensures .0,
-  ),
-  (search needs, search needs),
-)
+    ← c .before .before .before .before .before .before .search-and-reserve .ensures .0), (search needs, search needs))
 
 -- src/lib.rt:126:1
 same-length-7 : tie.Need-same-length-7
@@ -102,14 +94,10 @@ same-length-9 c = search needs
 -- src/lib.rt:126:1
 returns-3 : tie.Need-returns-3
 unfolding getReserving orFrom
-returns-3 c = (
-  rw (
-    ← c .before .before .before .before .before .before .before .before .before .before .before .before .before .before .before .before .before .before .before .get-local .ensures .0,
+returns-3 c =
+    (rw (← c .before .before .before .before .before .before .before .before .before .before .before .before .before .before .before .before .before .before .before .get-local .ensures .0,
     c .before .before .before .before .before .before .before .before .before .before .before .got .given .1,
-    ← c .before .before .before .before .before .before .search-and-reserve2 .ensures .0,
-  ),
-  (search needs, search needs),
-)
+    ← c .before .before .before .before .before .before .search-and-reserve2 .ensures .0), (search needs, search needs))
 
 -- src/lib.rt:126:1
 same-length-10 : tie.Need-same-length-10
@@ -126,13 +114,9 @@ same-length-12 c = search needs
 -- src/lib.rt:126:1
 returns-4 : tie.Need-returns-4
 unfolding getReserving orFrom
-returns-4 c = (
-  rw (
-    ← c .before .before .before .before .before .before .before .before .get-local .ensures .0,
-    c .enum-told3 .given .1,
-  ),
-  (search needs, search needs),
-)
+returns-4 c =
+    (rw (← c .before .before .before .before .before .before .before .before .get-local .ensures .0,
+    c .enum-told3 .given .1), (search needs, search needs))
 
 pub get-reserving-spec : {M : Type 1} → statement M
 get-reserving-spec =

@@ -39,10 +39,8 @@ same-length-3 c = search needs
 returns : tie.Need-returns
 unfolding routes
 returns c =
-    rw (
-      c .before .before .before .before .before .before .before .before .before .before .enum-told .given .1,
-      ← c .before .before .before .before .before .before .get-any .ensures .0,
-    )
+    rw (c .before .before .before .before .before .before .before .before .before .before .enum-told .given .1,
+    ← c .before .before .before .before .before .before .get-any .ensures .0)
 
 -- src/lib.rt:242:1
 same-length-4 : tie.Need-same-length-4
@@ -60,10 +58,8 @@ same-length-6 c = search needs
 returns-2 : tie.Need-returns-2
 unfolding routes
 returns-2 c =
-    rw (
-      c .before .before .before .before .before .before .before .before .before .before .before .name .given .1,
-      ← c .before .before .before .before .before .before .get-at .ensures .0,
-    )
+    rw (c .before .before .before .before .before .before .before .before .before .before .before .name .given .1,
+    ← c .before .before .before .before .before .before .get-at .ensures .0)
 
 pub routes-spec : {M : Type 1} → statement M
 routes-spec =

@@ -53,18 +53,14 @@ same-length-3 c = search needs
 -- src/lib.rt:187:17
 returns : tie.Need-returns
 unfolding searchTrees startTree ifte
-returns c = (
-  rw (
-    c .before .before .before .before .before .before .before .before .before .before .before .before .before .before .before .before .local .given .1,
+returns c =
+    (rw (c .before .before .before .before .before .before .before .before .before .before .before .before .before .before .before .before .local .given .1,
     ← c .before .before .before .before .before .before .before .before .before .before .before .before .before .before .start-tree .ensures .0,
     ← c .before .before .before .before .before .before .before .before .before .before .before .before .before .locals-of .ensures .0,
     ← c .before .before .before .before .before .before .before .before .before .before .before .before .count .ensures .0,
     lt-ltb _ _ (c .before .before .before .before .before .before .before .before .before .before .before .if1 .taken),
     ← c .before .before .before .before .before .before .before .before .before .before .slot .ensures,
-    ← c .before .before .before .before .before .before .get-reserving .ensures .0,
-  ),
-  (search needs, search needs),
-)
+    ← c .before .before .before .before .before .before .get-reserving .ensures .0), (search needs, search needs))
 
 -- src/lib.rt:189:13
 search-and-steal-requires : tie.Need-search-and-steal-requires
@@ -93,17 +89,13 @@ same-length-6 c = search needs
 -- src/lib.rt:166:1
 returns-2 : tie.Need-returns-2
 unfolding searchTrees startTree ifte
-returns-2 c = (
-  rw (
-    c .before .before .before .before .before .before .before .before .before .before .before .before .before .before .before .local .given .1,
+returns-2 c =
+    (rw (c .before .before .before .before .before .before .before .before .before .before .before .before .before .before .before .local .given .1,
     ← c .before .before .before .before .before .before .before .before .before .before .before .before .before .start-tree .ensures .0,
     ← c .before .before .before .before .before .before .before .before .before .before .before .before .locals-of .ensures .0,
     ← c .before .before .before .before .before .before .before .before .before .before .before .count .ensures .0,
     le-ltb _ _ (c .before .before .before .before .before .before .before .before .before .before .if1 .left),
-    ← c .before .before .before .before .before .before .search-and-steal .ensures .0,
-  ),
-  (search needs, search needs),
-)
+    ← c .before .before .before .before .before .before .search-and-steal .ensures .0), (search needs, search needs))
 
 -- src/lib.rt:166:1
 same-length-7 : tie.Need-same-length-7
@@ -120,13 +112,9 @@ same-length-9 c = search needs
 -- src/lib.rt:166:1
 returns-3 : tie.Need-returns-3
 unfolding searchTrees startTree ifte
-returns-3 c = (
-  rw (
-    c .before .before .before .before .before .before .before .before .before .before .enum-told .given .1,
-    ← c .before .before .before .before .before .before .search-and-steal2 .ensures .0,
-  ),
-  (search needs, search needs),
-)
+returns-3 c =
+    (rw (c .before .before .before .before .before .before .before .before .before .before .enum-told .given .1,
+    ← c .before .before .before .before .before .before .search-and-steal2 .ensures .0), (search needs, search needs))
 
 pub search-trees-spec : {M : Type 1} → statement M
 search-trees-spec =

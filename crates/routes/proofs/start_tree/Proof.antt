@@ -16,13 +16,9 @@ locals-of-requires c κs = search needs
 -- src/lib.rt:124:9
 returns : tie.Need-returns
 unfolding startTree
-returns c = (
-  rw (
-    ← c .before .locals-of .ensures .0,
-    eq-eqb _ _ (c .if1 .taken),
-  ),
-  search needs,
-)
+returns c =
+    (rw (← c .before .locals-of .ensures .0,
+    eq-eqb _ _ (c .if1 .taken)), search needs)
 
 -- src/lib.rt:126:13
 count-requires : tie.Need-count-requires
@@ -35,15 +31,11 @@ portion-requires c κs = search needs
 -- src/lib.rt:118:1
 returns-2 : tie.Need-returns-2
 unfolding startTree
-returns-2 c = (
-  rw (
-    ← c .before .before .before .locals-of .ensures .0,
+returns-2 c =
+    (rw (← c .before .before .before .locals-of .ensures .0,
     ne-eqb _ _ (c .before .before .if1 .left),
     ← c .before .count .ensures .0,
-    ← c .portion .ensures .0,
-  ),
-  search needs,
-)
+    ← c .portion .ensures .0), search needs)
 
 pub start-tree-spec : {M : Type 1} → statement M
 start-tree-spec =

@@ -1,0 +1,2 @@
+-- statistics by value, and against the definition
+pub mod Report
