@@ -1,2 +1,0 @@
--- statistics by value, and against the definition
-pub mod Report
