@@ -131,7 +131,7 @@ pub extern "C" fn llfree_start(
     free: bool,
 ) -> usize
     ensures { λ r. ⌜ telling r 0 0 (fresh (now (trees .exit)) (now (locals .exit)) (now (bits .exit)))
-      ≡ start (config h (now (table .entry))) free (now (trees .entry)) (now (locals .entry)) (now (bits .entry)) ⌝ }
+        ≡ start (config h (now (table .entry))) free (now (trees .entry)) (now (locals .entry)) (now (bits .entry)) ⌝ }
 {
     number(llfree::start(h, table, trees, locals, bits, free))
 }
@@ -152,7 +152,7 @@ pub extern "C" fn llfree_get(
     local: usize,
 ) -> Answer
     ensures { λ r. ⌜ telling (r .number) (r .frame) (r .class) (st (now (trees .exit)) (now (locals .exit)) (now (bits .exit)) (r .looks) (r .tries))
-      ≡ get (config h (now (table .entry))) (asking order class given local) (nameOf named frame) (now (trees .entry)) (now (locals .entry)) (now (bits .entry)) ⌝ }
+        ≡ get (config h (now (table .entry))) (asking order class given local) (nameOf named frame) (now (trees .entry)) (now (locals .entry)) (now (bits .entry)) ⌝ }
 {
     let name = name_of(named, frame);
     let q = ask(order, class, given, local);
@@ -174,7 +174,7 @@ pub extern "C" fn llfree_put(
     local: usize,
 ) -> usize
     ensures { λ r. ⌜ telling r 0 0 (fresh (now (trees .exit)) (now (locals .exit)) (now (bits .exit)))
-      ≡ put (config h (now (table .entry))) (asking order class given local) frame (now (trees .entry)) (now (locals .entry)) (now (bits .entry)) ⌝ }
+        ≡ put (config h (now (table .entry))) (asking order class given local) frame (now (trees .entry)) (now (locals .entry)) (now (bits .entry)) ⌝ }
 {
     let q = ask(order, class, given, local);
     number(llfree::put(h, table, trees, locals, bits, frame, q))
@@ -190,19 +190,19 @@ pub extern "C" fn llfree_drain(
     bits: &mut [u64],
 ) -> usize
     ensures { λ r. ⌜ telling r 0 0 (fresh (now (trees .exit)) (now (locals .exit)) (now (bits .exit)))
-      ≡ drain (config h (now (table .entry))) (now (trees .entry)) (now (locals .entry)) (now (bits .entry)) ⌝ }
+        ≡ drain (config h (now (table .entry))) (now (trees .entry)) (now (locals .entry)) (now (bits .entry)) ⌝ }
 {
     number(llfree::drain(h, table, trees, locals, bits))
 }
 
 // Statistics, where so many tally rows are to be filled: the rows come by value.
 #[no_mangle]
-pub extern "C" fn llfree_figures(
+pub extern "C" fn llfree_figures<'a>(
     h: Header,
-    table: &[u32; 64],
-    trees: &[u32],
-    locals: &[u64],
-    bits: &[u64],
+    table: &'a [u32; 64],
+    trees: &'a [u32],
+    locals: &'a [u64],
+    bits: &'a [u64],
     rows: usize,
 ) -> Figures
     ensures { λ r. ⌜ r ≡ figuresOf (reportOf (config h (now (table .entry))) (now (trees .entry)) (now (locals .entry)) (now (bits .entry)) rows) ⌝ }

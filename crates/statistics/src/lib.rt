@@ -86,7 +86,7 @@ pub fn statistics<'a, 'b>(
     rows: &'b mut [Tally],
 ) -> Totals
     ensures { λ r. ⌜ StatisticsPromise h (now (table .entry)) (words (now (trees .entry)) (now (locals .entry)) (now (bits .entry)))
-      (now (rows .entry)) r (now (rows .exit)) ⌝ }
+        (now (rows .entry)) r (now (rows .exit)) ⌝ }
 {
     let told = tell(h, table, trees, locals, bits, rows.len());
     if told.done {

@@ -10,31 +10,24 @@ Inv-loop words n sum₀ t₀ sum t = Unit {0}
 abbrev μ-loop : tie.MeasureT-loop
 μ-loop words n sum₀ t₀ sum t = n - t
 
--- src/lib.rt:13:5
 loop-holds : tie.Need-loop-holds Inv-loop μ-loop
 loop-holds c = search needs
 
--- src/lib.rt:14:49
 clear-in-requires : tie.Need-clear-in-requires Inv-loop μ-loop
 clear-in-requires c κs = search needs
 
--- src/lib.rt:14:9
 wrapping-add-usize-requires : tie.Need-wrapping-add-usize-requires Inv-loop μ-loop
 wrapping-add-usize-requires c κs = search needs
 
--- src/lib.rt:13:9
 add-t : tie.Need-add-t Inv-loop μ-loop
 add-t c = search needs
 
--- src/lib.rt:13:5
 loop-less : tie.Need-loop-less Inv-loop μ-loop
 loop-less c = search needs
 
--- src/lib.rt:13:5
 loop-again : tie.Need-loop-again Inv-loop μ-loop
 loop-again c = search needs
 
--- src/lib.rt:9:1
 returns : tie.Need-returns Inv-loop μ-loop
 returns c = search needs
 

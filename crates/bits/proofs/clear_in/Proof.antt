@@ -15,19 +15,15 @@ use Rattle.bits.proofs.held_words.Reads as held-words-reads
 count : (c : lts.After-held-words (held-words-reads.Asked, held-words-reads.Learnt) reads.Pre reads.Post) → c .held-words .result ≡ held (c .before .before .args .words .now) (c .before .before .args .tree * 2048) 2048
 count c = c .held-words .ensures ∙ ap (λ (x : ℕ). held (c .before .before .args .words .now) x 2048) (omega arith)
 
--- src/lib.rt:280:30
 mul-held-words : tie.Need-mul-held-words
 mul-held-words c = search needs
 
--- src/lib.rt:280:12
 held-words-requires : tie.Need-held-words-requires
 held-words-requires c κs = search needs
 
--- src/lib.rt:280:5
 sub-result : tie.Need-sub-result
 sub-result c = omega (arith, count c, clear-held 11 (c .before .before .args .words .now) (c .before .before .args .tree) (omega arith))
 
--- src/lib.rt:276:1
 returns : tie.Need-returns
 returns c = omega (arith, count c, clear-held 11 (c .before .before .args .words .now) (c .before .before .args .tree) (omega arith))
 

@@ -9,23 +9,18 @@ use Rattle.bits.proofs.emptied.Tie as tie
 use Rattle.bits.proofs.emptied.Reads as reads
 use Rattle.bits.proofs.emptied.Lts as lts
 
--- src/lib.rt:84:12
 shl-result : tie.Need-shl-result
 shl-result c = search needs
 
--- src/lib.rt:84:11
 sub-result : tie.Need-sub-result
 sub-result c = rw (one-shl (c .args .n) (c .pre .1 .1 .0)) (pow-pos (c .args .n))
 
--- src/lib.rt:84:10
 shl-result-2 : tie.Need-shl-result-2
 shl-result-2 c = search needs
 
--- src/lib.rt:84:5
 sub-result-2 : tie.Need-sub-result-2
 sub-result-2 c = rw (mask (c .args .s) (c .args .n) (c .pre .1 .1 .0) (c .pre .1 .1 .1)) (omega (arith, empty-sum (c .args .w) (c .args .s) (c .args .n) (c .pre .0)))
 
--- src/lib.rt:80:1
 returns : tie.Need-returns
 returns c = rw (mask (c .args .s) (c .args .n) (c .pre .1 .1 .0) (c .pre .1 .1 .1)) (omega (arith, empty-sum (c .args .w) (c .args .s) (c .args .n) (c .pre .0)))
 

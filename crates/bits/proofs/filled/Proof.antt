@@ -8,23 +8,18 @@ use Rattle.bits.proofs.filled.Tie as tie
 use Rattle.bits.proofs.filled.Reads as reads
 use Rattle.bits.proofs.filled.Lts as lts
 
--- src/lib.rt:76:12
 shl-result : tie.Need-shl-result
 shl-result c = search needs
 
--- src/lib.rt:76:11
 sub-result : tie.Need-sub-result
 sub-result c = rw (one-shl (c .args .n) (c .pre .1 .1 .0)) (pow-pos (c .args .n))
 
--- src/lib.rt:76:10
 shl-result-2 : tie.Need-shl-result-2
 shl-result-2 c = search needs
 
--- src/lib.rt:76:5
 add-result : tie.Need-add-result
 add-result c = record { fits = rw (mask (c .args .s) (c .args .n) (c .pre .1 .1 .0) (c .pre .1 .1 .1), fill-sum (c .args .w) (c .args .s) (c .args .n) (c .pre .0)) (put-lt (c .args .w) (c .args .s) (c .args .n) _ (ones-lt (c .args .n)) 64 (c .pre .1 .1 .1) (c .fits .w .fits)) }
 
--- src/lib.rt:72:1
 returns : tie.Need-returns
 returns c = rw (mask (c .args .s) (c .args .n) (c .pre .1 .1 .0) (c .pre .1 .1 .1)) (fill-sum (c .args .w) (c .args .s) (c .args .n) (c .pre .0))
 

@@ -8,15 +8,12 @@ use Rattle.bits.proofs.frames.Reads as reads
 use Rattle.bits.proofs.frames.Lts as lts
 use Rattle.bits.proofs.size.Reads as size-reads
 
--- src/lib.rt:298:5
 size-requires : tie.Need-size-requires
 size-requires c κs = search needs
 
--- src/lib.rt:298:5
 cast-result : tie.Need-cast-result
 cast-result c = let p = at-most _ 11 (c .before .pre) in omega (arith, p .1, c .size .ensures)
 
--- src/lib.rt:294:1
 returns : tie.Need-returns
 returns c = search needs
 

@@ -23,44 +23,34 @@ abbrev μ-loop : tie.MeasureT-loop
 word : (c : tie.After-shared-slice-known Inv-loop μ-loop) → getD (c .before .before .before .args .words .now) (c .before .before .before .args .at + c .before .before .loop .i) 0 < 2 ^ 64
 word c = omega (arith, c .shared-slice-known .given (c .before .before .before .args .at + c .before .before .loop .i))
 
--- src/lib.rt:30:5
 loop-holds : tie.Need-loop-holds Inv-loop μ-loop
 unfolding held
 loop-holds c = (search needs, sym (sum-none (bit (c .args .words .now)) (c .args .at * 64)))
 
--- src/lib.rt:31:38
 add-sum : tie.Need-add-sum Inv-loop μ-loop
 add-sum c = search needs
 
--- src/lib.rt:31:32
 mul-sum : tie.Need-mul-sum Inv-loop μ-loop
 mul-sum c = search needs
 
--- src/lib.rt:31:32
 shared-slice-read-sum : tie.Need-shared-slice-read-sum Inv-loop μ-loop
 shared-slice-read-sum c = search needs
 
--- src/lib.rt:31:16
 cast-sum : tie.Need-cast-sum Inv-loop μ-loop
 cast-sum c = omega (arith, ones-le 64 _ (word c))
 
--- src/lib.rt:31:9
 add-sum-2 : tie.Need-add-sum-2 Inv-loop μ-loop
 add-sum-2 c = omega (arith, ones-le 64 _ (word c), held-le (c .before .before .before .args .words .now) (c .before .before .before .args .at * 64) (c .before .before .loop .i * 64))
 
--- src/lib.rt:32:9
 add-i : tie.Need-add-i Inv-loop μ-loop
 add-i c = search needs
 
--- src/lib.rt:30:5
 loop-less : tie.Need-loop-less Inv-loop μ-loop
 loop-less c = search needs
 
--- src/lib.rt:30:5
 loop-again : tie.Need-loop-again Inv-loop μ-loop
 loop-again c = omega (arith, held-more (c .before .before .before .args .words .now) (c .before .before .before .args .at) (c .before .before .loop .i) (word c))
 
--- src/lib.rt:24:1
 returns : tie.Need-returns Inv-loop μ-loop
 returns c = let q : c .before .loop .i ≡ c .before .before .args .n = omega arith in rw q at (c .before .loop .inv .1)
 

@@ -10,35 +10,27 @@ use Rattle.bits.proofs.zero_words.Reads as zero-words-reads
 use Rattle.bits.proofs.part.Reads as part-reads
 use Rattle.bits.proofs.size.Reads as size-reads
 
--- src/lib.rt:43:9
 size-requires : tie.Need-size-requires
 size-requires c κs = search needs
 
--- src/lib.rt:44:13
 mul-b : tie.Need-mul-b
 mul-b c = let s = start-small _ _ _ _ (c .size .ensures) (c .before .before .pre) in omega arith
 
--- src/lib.rt:47:14
 mul-part : tie.Need-mul-part
 mul-part c = let s = start-small _ _ _ _ (c .before .size .ensures) (c .before .before .before .pre) in omega arith
 
--- src/lib.rt:47:14
 shared-slice-read-part : tie.Need-shared-slice-read-part
 shared-slice-read-part c = let s = start-small _ _ _ _ (c .before .before .size .ensures) (c .before .before .before .before .pre) in omega arith
 
--- src/lib.rt:47:9
 part-requires : tie.Need-part-requires
 part-requires c κs = search (needs, shift-lt)
 
--- src/lib.rt:49:9
 zero-words-requires : tie.Need-zero-words-requires
 zero-words-requires c κs = words-large _ _ _ _ (c .before .size .ensures) (c .before .before .before .pre) (c .if1 .left)
 
--- src/lib.rt:39:1
 returns : tie.Need-returns
 returns c = search (needs, free-part)
 
--- src/lib.rt:39:1
 returns-2 : tie.Need-returns-2
 returns-2 c = search (needs, free-large)
 

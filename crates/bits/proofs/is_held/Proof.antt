@@ -12,43 +12,33 @@ use Rattle.bits.proofs.full_words.Reads as full-words-reads
 use Rattle.bits.proofs.part.Reads as part-reads
 use Rattle.bits.proofs.size.Reads as size-reads
 
--- src/lib.rt:58:9
 size-requires : tie.Need-size-requires
 size-requires c κs = search needs
 
--- src/lib.rt:59:13
 mul-b : tie.Need-mul-b
 mul-b c = let s = start-small _ _ _ _ (c .size .ensures) (c .before .before .pre) in omega arith
 
--- src/lib.rt:62:14
 mul-part : tie.Need-mul-part
 mul-part c = let s = start-small _ _ _ _ (c .before .size .ensures) (c .before .before .before .pre) in omega arith
 
--- src/lib.rt:62:14
 shared-slice-read-part : tie.Need-shared-slice-read-part
 shared-slice-read-part c = let s = start-small _ _ _ _ (c .before .before .size .ensures) (c .before .before .before .before .pre) in omega arith
 
--- src/lib.rt:62:9
 part-requires : tie.Need-part-requires
 part-requires c κs = search (needs, shift-lt)
 
--- src/lib.rt:62:39
 shl-result : tie.Need-shl-result
 shl-result c = search (needs, shift-lt)
 
--- src/lib.rt:62:38
 sub-result : tie.Need-sub-result
 sub-result c = rw (one-shl _ (shift-lt (c .before .before .before .before .before .args .words .now) (c .before .before .before .before .before .args .order) (c .before .before .before .before .before .args .block) (c .before .before .before .size .result) (c .before .before .before .size .ensures) (c .before .before .if1 .taken))) (pow-pos _)
 
--- src/lib.rt:64:9
 full-words-requires : tie.Need-full-words-requires
 full-words-requires c κs = words-large _ _ _ _ (c .before .size .ensures) (c .before .before .before .pre) (c .if1 .left)
 
--- src/lib.rt:54:1
 returns : tie.Need-returns
 returns c = search (needs, held-part-test)
 
--- src/lib.rt:54:1
 returns-2 : tie.Need-returns-2
 returns-2 c = search (needs, held-large-test)
 

@@ -7,19 +7,15 @@ use Rattle.bits.proofs.part.Tie as tie
 use Rattle.bits.proofs.part.Reads as reads
 use Rattle.bits.proofs.part.Lts as lts
 
--- src/lib.rt:20:6
 shr-result : tie.Need-shr-result
 shr-result c = search needs
 
--- src/lib.rt:20:17
 shl-result : tie.Need-shl-result
 shl-result c = search needs
 
--- src/lib.rt:20:5
 rem-result : tie.Need-rem-result
 rem-result c = rw (one-shl (c .args .n) (c .pre .1)) (pow-pos (c .args .n))
 
--- src/lib.rt:16:1
 returns : tie.Need-returns
 returns c = rw (one-shl (c .args .n) (c .pre .1))
 

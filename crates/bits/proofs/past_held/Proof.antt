@@ -9,47 +9,36 @@ use Rattle.bits.proofs.past_held.Reads as reads
 use Rattle.bits.proofs.past_held.Lts as lts
 use Rattle.bits.proofs.full_words.Reads as full-words-reads
 
--- src/lib.rt:290:12
 mul-if2 : tie.Need-mul-if2
 mul-if2 c = search needs
 
--- src/lib.rt:290:12
 shared-slice-read-if2 : tie.Need-shared-slice-read-if2
 shared-slice-read-if2 c = search needs
 
--- src/lib.rt:290:12
 shr-if2 : tie.Need-shr-if2
 shr-if2 c = search needs
 
--- src/lib.rt:290:30
 shr-if2-2 : tie.Need-shr-if2-2
 shr-if2-2 c = search needs
 
--- src/lib.rt:291:38
 add-full-words : tie.Need-add-full-words
 add-full-words c = search needs
 
--- src/lib.rt:291:61
 add-full-words-2 : tie.Need-add-full-words-2
 add-full-words-2 c = search needs
 
--- src/lib.rt:291:46
 sub-full-words : tie.Need-sub-full-words
 sub-full-words c = search needs
 
--- src/lib.rt:291:13
 full-words-requires : tie.Need-full-words-requires
 full-words-requires c κs = search needs
 
--- src/lib.rt:291:13
 returns : tie.Need-returns
 returns c = past-yes _ _ (c .before .before .before .if1 .taken) (omega (arith, c .before .before .shared-slice-known2 .given (c .before .before .before .before .before .args .frame / 64))) _ (c .before .if2 .taken) (c .full-words .ensures)
 
--- src/lib.rt:293:9
 returns-2 : tie.Need-returns-2
 returns-2 c = past-no _ _ (c .before .before .if1 .taken) (omega (arith, c .before .shared-slice-known2 .given (c .before .before .before .before .args .frame / 64))) (c .if2 .left)
 
--- src/lib.rt:284:1
 returns-3 : tie.Need-returns-3
 returns-3 c = past-end _ _ (c .if1 .left)
 

@@ -11,51 +11,39 @@ use Rattle.bits.proofs.emptied.Reads as emptied-reads
 use Rattle.bits.proofs.set_words.Reads as set-words-reads
 use Rattle.bits.proofs.size.Reads as size-reads
 
--- src/lib.rt:121:9
 size-requires : tie.Need-size-requires
 size-requires c κs = search needs
 
--- src/lib.rt:122:13
 mul-b : tie.Need-mul-b
 mul-b c = let s = start-small _ _ _ _ (c .size .ensures) (c .before .before .pre .0) in omega arith
 
--- src/lib.rt:125:28
 mul-emptied : tie.Need-mul-emptied
 mul-emptied c = let s = start-small _ _ _ _ (c .before .size .ensures) (c .before .before .before .pre .0) in omega arith
 
--- src/lib.rt:125:28
 slice-read-emptied : tie.Need-slice-read-emptied
 slice-read-emptied c = let s = start-small _ _ _ _ (c .before .before .size .ensures) (c .before .before .before .before .pre .0) in omega arith
 
--- src/lib.rt:125:20
 emptied-requires : tie.Need-emptied-requires
 emptied-requires c κs = field-held _ _ _ _ (c .before .before .size .ensures) (c .before .if1 .taken) (c .before .before .before .before .pre .1)
 
--- src/lib.rt:125:9
 mul-words : tie.Need-mul-words
 mul-words c = let s = start-small _ _ _ _ (c .before .before .before .size .ensures) (c .before .before .before .before .before .pre .0) in omega arith
 
--- src/lib.rt:125:9
 slice-write-words : tie.Need-slice-write-words
 slice-write-words c = let s = start-small _ _ _ _ (c .before .before .before .size .ensures) (c .before .before .before .before .before .pre .0) in omega arith
 
--- src/lib.rt:127:9
 set-words-requires : tie.Need-set-words-requires
 set-words-requires c κs = words-large _ _ _ _ (c .before .before .size .ensures) (c .before .before .before .before .pre .0) (c .before .if1 .left)
 
--- src/lib.rt:116:1
 same-length : tie.Need-same-length
 same-length c = search needs
 
--- src/lib.rt:116:1
 returns : tie.Need-returns
 returns c = search (needs, mark-part)
 
--- src/lib.rt:116:1
 same-length-2 : tie.Need-same-length-2
 same-length-2 c = search needs
 
--- src/lib.rt:116:1
 returns-2 : tie.Need-returns-2
 returns-2 c = search (needs, mark-large)
 

@@ -17,39 +17,30 @@ Inv-loop words₀ at n x i₀ words i = (i ≤ n) × ((length words ≡ length w
 abbrev μ-loop : tie.MeasureT-loop
 μ-loop words₀ at n x i₀ words i = n - i
 
--- src/lib.rt:93:5
 loop-holds : tie.Need-loop-holds Inv-loop μ-loop
 loop-holds c = (search needs, (refl, refl))
 
--- src/lib.rt:94:15
 add-words : tie.Need-add-words Inv-loop μ-loop
 add-words c = search needs
 
--- src/lib.rt:94:9
 mul-words : tie.Need-mul-words Inv-loop μ-loop
 mul-words c = search needs
 
--- src/lib.rt:94:9
 slice-write-words : tie.Need-slice-write-words Inv-loop μ-loop
 slice-write-words c = search needs
 
--- src/lib.rt:95:9
 add-i : tie.Need-add-i Inv-loop μ-loop
 add-i c = search needs
 
--- src/lib.rt:93:5
 loop-less : tie.Need-loop-less Inv-loop μ-loop
 loop-less c = search needs
 
--- src/lib.rt:93:5
 loop-again : tie.Need-loop-again Inv-loop μ-loop
 loop-again c = (search needs, (simp length-set (c .before .loop .inv .1 .0), set-more (c .before .before .args .words .now) (c .before .loop .words) (c .before .before .args .at) (c .before .loop .i) (c .before .before .args .x) (c .before .loop .inv .1 .1)))
 
--- src/lib.rt:88:1
 same-length : tie.Need-same-length Inv-loop μ-loop
 same-length c = search needs
 
--- src/lib.rt:88:1
 returns : tie.Need-returns Inv-loop μ-loop
 returns c = let q : c .before .loop .i ≡ c .before .before .args .n = omega arith in rw q at (c .before .loop .inv .1 .1)
 

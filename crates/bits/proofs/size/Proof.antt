@@ -7,11 +7,9 @@ use Rattle.bits.proofs.size.Tie as tie
 use Rattle.bits.proofs.size.Reads as reads
 use Rattle.bits.proofs.size.Lts as lts
 
--- src/lib.rt:12:5
 shl-result : tie.Need-shl-result
 shl-result c = search needs
 
--- src/lib.rt:8:1
 returns : tie.Need-returns
 returns c = one-shl (c .args .order) (omega arith)
 

@@ -11,19 +11,15 @@ use Rattle.bits.proofs.word_free.Lts as lts
 use Rattle.bits.proofs.part.Reads as part-reads
 use Rattle.bits.proofs.size.Reads as size-reads
 
--- src/lib.rt:122:9
 size-requires : tie.Need-size-requires
 size-requires c κs = search needs
 
--- src/lib.rt:123:13
 mul-part : tie.Need-mul-part
 mul-part c = omega (arith, word-start _ _ _ _ (c .size .ensures) (c .before .pre .1))
 
--- src/lib.rt:123:5
 part-requires : tie.Need-part-requires
 part-requires c κs = let s = word-start _ _ _ _ (c .size .ensures) (c .before .pre .1) in let p = pow-pos (c .before .args .order) in (omega (arith, c .size .ensures), shift-lt (word (c .before .args .w)) _ (c .before .args .block) _ (c .size .ensures) (c .before .pre .0))
 
--- src/lib.rt:118:1
 returns : tie.Need-returns
 returns c = word-free _ _ _ _ (c .before .size .ensures) (c .before .before .pre .1) _ (c .part .ensures) (c .before .before .pre .0)
 

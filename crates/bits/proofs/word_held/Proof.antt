@@ -12,27 +12,21 @@ use Rattle.bits.proofs.word_held.Lts as lts
 use Rattle.bits.proofs.part.Reads as part-reads
 use Rattle.bits.proofs.size.Reads as size-reads
 
--- src/lib.rt:131:9
 size-requires : tie.Need-size-requires
 size-requires c κs = search needs
 
--- src/lib.rt:132:13
 mul-part : tie.Need-mul-part
 mul-part c = omega (arith, word-start _ _ _ _ (c .size .ensures) (c .before .pre .1))
 
--- src/lib.rt:132:5
 part-requires : tie.Need-part-requires
 part-requires c κs = let s = word-start _ _ _ _ (c .size .ensures) (c .before .pre .1) in let p = pow-pos (c .before .args .order) in (omega (arith, c .size .ensures), shift-lt (word (c .before .args .w)) _ (c .before .args .block) _ (c .size .ensures) (c .before .pre .0))
 
--- src/lib.rt:132:31
 shl-result : tie.Need-shl-result
 shl-result c = shift-lt (word (c .before .before .args .w)) _ (c .before .before .args .block) _ (c .before .size .ensures) (c .before .before .pre .0)
 
--- src/lib.rt:132:30
 sub-result : tie.Need-sub-result
 sub-result c = rw (one-shl _ (shift-lt (word (c .before .before .args .w)) _ (c .before .before .args .block) _ (c .before .size .ensures) (c .before .before .pre .0))) (pow-pos _)
 
--- src/lib.rt:127:1
 returns : tie.Need-returns
 returns c = word-held _ _ _ _ (c .before .size .ensures) (c .before .before .pre .1) _ (c .part .ensures) (c .before .before .pre .0)
 

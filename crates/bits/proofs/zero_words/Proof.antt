@@ -17,39 +17,30 @@ Inv-loop words at n i₀ i = (i ≤ n) × (held words (at * 64) (i * 64) ≡ 0)
 abbrev μ-loop : tie.MeasureT-loop
 μ-loop words at n i₀ i = n - i
 
--- src/lib.rt:49:5
 loop-holds : tie.Need-loop-holds Inv-loop μ-loop
 loop-holds c = (search needs, run-none (c .args .words .now) (c .args .at * 64))
 
--- src/lib.rt:50:18
 add-if1 : tie.Need-add-if1 Inv-loop μ-loop
 add-if1 c = search needs
 
--- src/lib.rt:50:12
 mul-if1 : tie.Need-mul-if1 Inv-loop μ-loop
 mul-if1 c = search needs
 
--- src/lib.rt:50:12
 shared-slice-read-if1 : tie.Need-shared-slice-read-if1 Inv-loop μ-loop
 shared-slice-read-if1 c = search needs
 
--- src/lib.rt:51:13
 returns : tie.Need-returns Inv-loop μ-loop
 returns c = sym (held-some (c .before .before .before .before .args .words .now) (c .before .before .before .before .args .at) (c .before .before .before .before .args .n) (c .before .before .before .loop .i) (c .before .before .loop-test .taken) (omega (arith, c .before .shared-slice-known .given (c .before .before .before .before .args .at + c .before .before .before .loop .i))) (c .if1 .taken))
 
--- src/lib.rt:53:9
 add-i : tie.Need-add-i Inv-loop μ-loop
 add-i c = search needs
 
--- src/lib.rt:49:5
 loop-less : tie.Need-loop-less Inv-loop μ-loop
 loop-less c = search needs
 
--- src/lib.rt:49:5
 loop-again : tie.Need-loop-again Inv-loop μ-loop
 loop-again c = (search needs, zero-more (c .before .before .before .before .args .words .now) (c .before .before .before .before .args .at) (c .before .before .before .loop .i) (c .before .before .before .loop .inv .1) (c .if1 .left))
 
--- src/lib.rt:44:1
 returns-2 : tie.Need-returns-2 Inv-loop μ-loop
 returns-2 c = let q : c .before .loop .i ≡ c .before .before .args .n = omega arith in sym (eq-eqb _ _ (rw q at (c .before .loop .inv .1)))
 

@@ -24,8 +24,10 @@ returns c =
 returns-2 : tie.Need-returns-2
 unfolding outcomeOf numberOf
 returns-2 c =
-    rw (c .before .before .o .given .1,
-    ← c .refusal-number .ensures)
+    rw (
+      c .before .before .o .given .1,
+      ← c .refusal-number .ensures,
+    )
 
 pub number-spec : {M : Type 1} → statement M
 number-spec = tie.close (tie.spec enum-told enum-known-o refusal-number-requires returns returns-2)

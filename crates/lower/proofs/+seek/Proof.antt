@@ -24,7 +24,6 @@ seek-at t = and 1 seek-kinds.ps (is 1 seek-kinds.ps μ-seek t) seek.Pre
 abbrev seek-below : ℕ → In 1 seek-kinds.ps
 seek-below t = and 1 seek-kinds.ps (falls 1 seek-kinds.ps _<_ μ-seek t) seek.Pre
 
--- src/lib.rt:65:12
 seek-is-free-requires : (t : ℕ) → seek-lts.Need-is-free-requires (
   is-free-reads.Asked,
   is-free-reads.Learnt,
@@ -37,7 +36,6 @@ seek-is-free-requires : (t : ℕ) → seek-lts.Need-is-free-requires (
 ) (seek-at t) seek.Post
 seek-is-free-requires t c κs = search needs
 
--- src/lib.rt:66:13
 seek-returns : (t : ℕ) → seek-lts.Need-returns (
   is-free-reads.Asked,
   is-free-reads.Learnt,
@@ -50,7 +48,6 @@ seek-returns : (t : ℕ) → seek-lts.Need-returns (
 ) (seek-at t) seek.Post
 seek-returns t c = search (needs, leaf-yes)
 
--- src/lib.rt:68:9
 seek-returns-2 : (t : ℕ) → seek-lts.Need-returns-2 (
   is-free-reads.Asked,
   is-free-reads.Learnt,
@@ -63,7 +60,6 @@ seek-returns-2 : (t : ℕ) → seek-lts.Need-returns-2 (
 ) (seek-at t) seek.Post
 seek-returns-2 t c = search (needs, leaf-no)
 
--- src/lib.rt:71:9
 seek-seek-row-requires : (t : ℕ) → seek-lts.Need-seek-row-requires (
   is-free-reads.Asked,
   is-free-reads.Learnt,
@@ -76,7 +72,6 @@ seek-seek-row-requires : (t : ℕ) → seek-lts.Need-seek-row-requires (
 ) (seek-at t) seek.Post
 seek-seek-row-requires t c κs = (search needs, rw (c .if3 .taken) at (c .before .before .before .pre .1 .1 .1 .1))
 
--- src/lib.rt:71:9
 seek-returns-3 : (t : ℕ) → seek-lts.Need-returns-3 (
   is-free-reads.Asked,
   is-free-reads.Learnt,
@@ -89,7 +84,6 @@ seek-returns-3 : (t : ℕ) → seek-lts.Need-returns-3 (
 ) (seek-at t) seek.Post
 seek-returns-3 t c = search (needs, at-word)
 
--- src/lib.rt:73:16
 seek-mul-left : (t : ℕ) → seek-lts.Need-mul-left (
   is-free-reads.Asked,
   is-free-reads.Learnt,
@@ -102,7 +96,6 @@ seek-mul-left : (t : ℕ) → seek-lts.Need-mul-left (
 ) (seek-at t) seek.Post
 seek-mul-left t c = let s = block-few _ _ _ (c .before .before .before .pre .1 .1 .1 .1) in omega arith
 
--- src/lib.rt:74:17
 seek-mul-right : (t : ℕ) → seek-lts.Need-mul-right (
   is-free-reads.Asked,
   is-free-reads.Learnt,
@@ -115,7 +108,6 @@ seek-mul-right : (t : ℕ) → seek-lts.Need-mul-right (
 ) (seek-at t) seek.Post
 seek-mul-right t c = let s = block-few _ _ _ (c .before .before .before .pre .1 .1 .1 .1) in omega arith
 
--- src/lib.rt:74:17
 seek-add-right : (t : ℕ) → seek-lts.Need-add-right (
   is-free-reads.Asked,
   is-free-reads.Learnt,
@@ -128,7 +120,6 @@ seek-add-right : (t : ℕ) → seek-lts.Need-add-right (
 ) (seek-at t) seek.Post
 seek-add-right t c = let s = block-few _ _ _ (c .before .before .before .pre .1 .1 .1 .1) in omega arith
 
--- src/lib.rt:75:22
 seek-sub-passed : (t : ℕ) → seek-lts.Need-sub-passed (
   is-free-reads.Asked,
   is-free-reads.Learnt,
@@ -141,7 +132,6 @@ seek-sub-passed : (t : ℕ) → seek-lts.Need-sub-passed (
 ) (seek-at t) seek.Post
 seek-sub-passed t c = search needs
 
--- src/lib.rt:75:8
 seek-passed-requires : (t : ℕ) → seek-lts.Need-passed-requires (
   is-free-reads.Asked,
   is-free-reads.Learnt,
@@ -154,7 +144,6 @@ seek-passed-requires : (t : ℕ) → seek-lts.Need-passed-requires (
 ) (seek-at t) seek.Post
 seek-passed-requires t c κs = search (needs, half-left)
 
--- src/lib.rt:76:28
 seek-sub-seek : (t : ℕ) → seek-lts.Need-sub-seek (
   is-free-reads.Asked,
   is-free-reads.Learnt,
@@ -167,7 +156,6 @@ seek-sub-seek : (t : ℕ) → seek-lts.Need-sub-seek (
 ) (seek-at t) seek.Post
 seek-sub-seek t c = search needs
 
--- src/lib.rt:76:9
 seek-seek-requires : (t : ℕ) → seek-lts.Need-seek-requires (
   is-free-reads.Asked,
   is-free-reads.Learnt,
@@ -180,7 +168,6 @@ seek-seek-requires : (t : ℕ) → seek-lts.Need-seek-requires (
 ) (seek-at t) seek.Post
 seek-seek-requires t c κs = (search needs, (search needs, (search needs, (right-reached _ _ _ (c .before .before .before .before .before .pre .1 .0) (c .before .before .if3 .left) (c .before .before .before .before .before .pre .1 .1 .1 .0), half-right _ _ _ _ (c .before .before .before .before .before .pre .1 .1 .0) (c .before .before .before .if1 .left) (c .before .before .before .before .before .pre .1 .1 .1 .1)))))
 
--- src/lib.rt:76:9
 seek-returns-4 : (t : ℕ) → seek-lts.Need-returns-4 (
   is-free-reads.Asked,
   is-free-reads.Learnt,
@@ -193,7 +180,6 @@ seek-returns-4 : (t : ℕ) → seek-lts.Need-returns-4 (
 ) (seek-at t) seek.Post
 seek-returns-4 t c = search (needs, right-only)
 
--- src/lib.rt:78:23
 seek-sub-seek-2 : (t : ℕ) → seek-lts.Need-sub-seek-2 (
   is-free-reads.Asked,
   is-free-reads.Learnt,
@@ -206,7 +192,6 @@ seek-sub-seek-2 : (t : ℕ) → seek-lts.Need-sub-seek-2 (
 ) (seek-at t) seek.Post
 seek-sub-seek-2 t c = search needs
 
--- src/lib.rt:78:11
 seek-seek-requires-2 : (t : ℕ) → seek-lts.Need-seek-requires-2 (
   is-free-reads.Asked,
   is-free-reads.Learnt,
@@ -219,7 +204,6 @@ seek-seek-requires-2 : (t : ℕ) → seek-lts.Need-seek-requires-2 (
 ) (seek-at t) seek.Post
 seek-seek-requires-2 t c κs = (search needs, (search needs, (search needs, (left-reached _ _ _ _ _ (c .before .before .before .before .before .pre .1 .0) (c .before .before .before .before .before .pre .1 .1 .0) (c .before .before .before .if1 .left) (c .before .before .if3 .left) _ (c .before .passed .ensures) (c .if4 .left), half-left _ _ _ _ (c .before .before .before .before .before .pre .1 .1 .0) (c .before .before .before .if1 .left) (c .before .before .before .before .before .pre .1 .1 .1 .1)))))
 
--- src/lib.rt:79:19
 seek-enum-known-i : (t : ℕ) → seek-lts.Need-enum-known-i (
   is-free-reads.Asked,
   is-free-reads.Learnt,
@@ -232,7 +216,6 @@ seek-enum-known-i : (t : ℕ) → seek-lts.Need-enum-known-i (
 ) (seek-at t) seek.Post
 seek-enum-known-i t c = search needs
 
--- src/lib.rt:80:39
 seek-enum-told : (t : ℕ) → seek-lts.Need-enum-told (
   is-free-reads.Asked,
   is-free-reads.Learnt,
@@ -245,7 +228,6 @@ seek-enum-told : (t : ℕ) → seek-lts.Need-enum-told (
 ) (seek-at t) seek.Post
 seek-enum-told t c = search needs
 
--- src/lib.rt:80:39
 seek-sub-seek-3 : (t : ℕ) → seek-lts.Need-sub-seek-3 (
   is-free-reads.Asked,
   is-free-reads.Learnt,
@@ -258,7 +240,6 @@ seek-sub-seek-3 : (t : ℕ) → seek-lts.Need-sub-seek-3 (
 ) (seek-at t) seek.Post
 seek-sub-seek-3 t c = search needs
 
--- src/lib.rt:80:27
 seek-seek-requires-3 : (t : ℕ) → seek-lts.Need-seek-requires-3 (
   is-free-reads.Asked,
   is-free-reads.Learnt,
@@ -271,7 +252,6 @@ seek-seek-requires-3 : (t : ℕ) → seek-lts.Need-seek-requires-3 (
 ) (seek-at t) seek.Post
 seek-seek-requires-3 t c κs = (search needs, (search needs, (search needs, (right-reached _ _ _ (c .before .before .before .before .before .before .before .before .pre .1 .0) (c .before .before .before .before .before .if3 .left) (c .before .before .before .before .before .before .before .before .pre .1 .1 .1 .0), half-right _ _ _ _ (c .before .before .before .before .before .before .before .before .pre .1 .1 .0) (c .before .before .before .before .before .before .if1 .left) (c .before .before .before .before .before .before .before .before .pre .1 .1 .1 .1)))))
 
--- src/lib.rt:60:1
 seek-returns-5 : (t : ℕ) → seek-lts.Need-returns-5 (
   is-free-reads.Asked,
   is-free-reads.Learnt,
@@ -284,7 +264,6 @@ seek-returns-5 : (t : ℕ) → seek-lts.Need-returns-5 (
 ) (seek-at t) seek.Post
 seek-returns-5 t c = search (needs, from-left)
 
--- src/lib.rt:60:1
 seek-returns-6 : (t : ℕ) → seek-lts.Need-returns-6 (
   is-free-reads.Asked,
   is-free-reads.Learnt,

@@ -24,7 +24,6 @@ abbrev seek-word-below : ℕ → In 0 seek-word-kinds.ps
 seek-word-below t =
     and 0 seek-word-kinds.ps (falls 0 seek-word-kinds.ps _<_ μ-seek-word t) seek-word.Pre
 
--- src/lib.rt:18:12
 seek-word-word-free-requires : (t : ℕ) → seek-word-lts.Need-word-free-requires (
   word-free-reads.Asked,
   word-free-reads.Learnt,
@@ -35,7 +34,6 @@ seek-word-word-free-requires : (t : ℕ) → seek-word-lts.Need-word-free-requir
 ) (seek-word-at t) seek-word.Post
 seek-word-word-free-requires t c κs = search needs
 
--- src/lib.rt:19:13
 seek-word-returns : (t : ℕ) → seek-word-lts.Need-returns (
   word-free-reads.Asked,
   word-free-reads.Learnt,
@@ -46,7 +44,6 @@ seek-word-returns : (t : ℕ) → seek-word-lts.Need-returns (
 ) (seek-word-at t) seek-word.Post
 seek-word-returns t c = search (needs, word-yes)
 
--- src/lib.rt:21:9
 seek-word-returns-2 : (t : ℕ) → seek-word-lts.Need-returns-2 (
   word-free-reads.Asked,
   word-free-reads.Learnt,
@@ -57,7 +54,6 @@ seek-word-returns-2 : (t : ℕ) → seek-word-lts.Need-returns-2 (
 ) (seek-word-at t) seek-word.Post
 seek-word-returns-2 t c = search (needs, word-no)
 
--- src/lib.rt:23:16
 seek-word-mul-left : (t : ℕ) → seek-word-lts.Need-mul-left (
   word-free-reads.Asked,
   word-free-reads.Learnt,
@@ -68,7 +64,6 @@ seek-word-mul-left : (t : ℕ) → seek-word-lts.Need-mul-left (
 ) (seek-word-at t) seek-word.Post
 seek-word-mul-left t c = let s = block-few _ _ _ (c .before .pre .1 .1 .1 .1) in omega arith
 
--- src/lib.rt:24:17
 seek-word-mul-right : (t : ℕ) → seek-word-lts.Need-mul-right (
   word-free-reads.Asked,
   word-free-reads.Learnt,
@@ -79,7 +74,6 @@ seek-word-mul-right : (t : ℕ) → seek-word-lts.Need-mul-right (
 ) (seek-word-at t) seek-word.Post
 seek-word-mul-right t c = let s = block-few _ _ _ (c .before .pre .1 .1 .1 .1) in omega arith
 
--- src/lib.rt:24:17
 seek-word-add-right : (t : ℕ) → seek-word-lts.Need-add-right (
   word-free-reads.Asked,
   word-free-reads.Learnt,
@@ -90,7 +84,6 @@ seek-word-add-right : (t : ℕ) → seek-word-lts.Need-add-right (
 ) (seek-word-at t) seek-word.Post
 seek-word-add-right t c = let s = block-few _ _ _ (c .before .pre .1 .1 .1 .1) in omega arith
 
--- src/lib.rt:25:27
 seek-word-sub-word-held : (t : ℕ) → seek-word-lts.Need-sub-word-held (
   word-free-reads.Asked,
   word-free-reads.Learnt,
@@ -101,7 +94,6 @@ seek-word-sub-word-held : (t : ℕ) → seek-word-lts.Need-sub-word-held (
 ) (seek-word-at t) seek-word.Post
 seek-word-sub-word-held t c = search needs
 
--- src/lib.rt:25:8
 seek-word-word-held-requires : (t : ℕ) → seek-word-lts.Need-word-held-requires (
   word-free-reads.Asked,
   word-free-reads.Learnt,
@@ -112,7 +104,6 @@ seek-word-word-held-requires : (t : ℕ) → seek-word-lts.Need-word-held-requir
 ) (seek-word-at t) seek-word.Post
 seek-word-word-held-requires t c κs = search (needs, half-left)
 
--- src/lib.rt:26:29
 seek-word-sub-seek-word : (t : ℕ) → seek-word-lts.Need-sub-seek-word (
   word-free-reads.Asked,
   word-free-reads.Learnt,
@@ -123,7 +114,6 @@ seek-word-sub-seek-word : (t : ℕ) → seek-word-lts.Need-sub-seek-word (
 ) (seek-word-at t) seek-word.Post
 seek-word-sub-seek-word t c = search needs
 
--- src/lib.rt:26:9
 seek-word-seek-word-requires : (t : ℕ) → seek-word-lts.Need-seek-word-requires (
   word-free-reads.Asked,
   word-free-reads.Learnt,
@@ -134,7 +124,6 @@ seek-word-seek-word-requires : (t : ℕ) → seek-word-lts.Need-seek-word-requir
 ) (seek-word-at t) seek-word.Post
 seek-word-seek-word-requires t c κs = (search needs, (search needs, (search needs, (search needs, half-right _ _ _ _ (c .before .before .before .pre .1 .0) (c .before .before .if1 .left) (c .before .before .before .pre .1 .1 .1 .1)))))
 
--- src/lib.rt:26:9
 seek-word-returns-3 : (t : ℕ) → seek-word-lts.Need-returns-3 (
   word-free-reads.Asked,
   word-free-reads.Learnt,
@@ -145,7 +134,6 @@ seek-word-returns-3 : (t : ℕ) → seek-word-lts.Need-returns-3 (
 ) (seek-word-at t) seek-word.Post
 seek-word-returns-3 t c = search (needs, word-right)
 
--- src/lib.rt:28:26
 seek-word-sub-seek-word-2 : (t : ℕ) → seek-word-lts.Need-sub-seek-word-2 (
   word-free-reads.Asked,
   word-free-reads.Learnt,
@@ -156,7 +144,6 @@ seek-word-sub-seek-word-2 : (t : ℕ) → seek-word-lts.Need-sub-seek-word-2 (
 ) (seek-word-at t) seek-word.Post
 seek-word-sub-seek-word-2 t c = search needs
 
--- src/lib.rt:28:9
 seek-word-seek-word-requires-2 : (t : ℕ) → seek-word-lts.Need-seek-word-requires-2 (
   word-free-reads.Asked,
   word-free-reads.Learnt,
@@ -167,7 +154,6 @@ seek-word-seek-word-requires-2 : (t : ℕ) → seek-word-lts.Need-seek-word-requ
 ) (seek-word-at t) seek-word.Post
 seek-word-seek-word-requires-2 t c κs = (search needs, (search needs, (search needs, (search needs, half-left _ _ _ _ (c .before .before .before .pre .1 .0) (c .before .before .if1 .left) (c .before .before .before .pre .1 .1 .1 .1)))))
 
--- src/lib.rt:30:9
 seek-word-returns-4 : (t : ℕ) → seek-word-lts.Need-returns-4 (
   word-free-reads.Asked,
   word-free-reads.Learnt,
@@ -178,7 +164,6 @@ seek-word-returns-4 : (t : ℕ) → seek-word-lts.Need-returns-4 (
 ) (seek-word-at t) seek-word.Post
 seek-word-returns-4 t c = search (needs, word-left)
 
--- src/lib.rt:32:18
 seek-word-sub-seek-word-3 : (t : ℕ) → seek-word-lts.Need-sub-seek-word-3 (
   word-free-reads.Asked,
   word-free-reads.Learnt,
@@ -189,7 +174,6 @@ seek-word-sub-seek-word-3 : (t : ℕ) → seek-word-lts.Need-sub-seek-word-3 (
 ) (seek-word-at t) seek-word.Post
 seek-word-sub-seek-word-3 t c = search needs
 
--- src/lib.rt:32:5
 seek-word-seek-word-requires-3 : (t : ℕ) → seek-word-lts.Need-seek-word-requires-3 (
   word-free-reads.Asked,
   word-free-reads.Learnt,
@@ -200,7 +184,6 @@ seek-word-seek-word-requires-3 : (t : ℕ) → seek-word-lts.Need-seek-word-requ
 ) (seek-word-at t) seek-word.Post
 seek-word-seek-word-requires-3 t c κs = (search needs, (search needs, (search needs, (search needs, half-right _ _ _ _ (c .before .before .before .before .before .pre .1 .0) (c .before .before .before .before .if1 .left) (c .before .before .before .before .before .pre .1 .1 .1 .1)))))
 
--- src/lib.rt:13:1
 seek-word-returns-5 : (t : ℕ) → seek-word-lts.Need-returns-5 (
   word-free-reads.Asked,
   word-free-reads.Learnt,

@@ -11,47 +11,36 @@ use Rattle.lower.proofs.find.Lts as lts
 use Rattle.bits.proofs.is_free.Reads as is-free-reads
 use Rattle.lower.proofs.upward.Reads as upward-reads
 
--- src/lib.rt:105:16
 mul-from : tie.Need-mul-from
 mul-from c = search needs
 
--- src/lib.rt:105:16
 shr-from : tie.Need-shr-from
 shr-from c = search needs
 
--- src/lib.rt:106:8
 is-free-requires : tie.Need-is-free-requires
 is-free-requires c κs = hint-block 11 _ _ _ (omega arith) (c .before .pre .0) (c .before .pre .1)
 
--- src/lib.rt:107:9
 returns : tie.Need-returns
 returns c = hint-free 11 _ _ _ (omega arith) (c .before .before .before .pre .0) _ (c .before .is-free .ensures) (c .if1 .taken)
 
--- src/lib.rt:109:11
 upward-requires : tie.Need-upward-requires
 upward-requires c κs = search needs
 
--- src/lib.rt:110:19
 enum-known-i : tie.Need-enum-known-i
 enum-known-i c = search needs
 
--- src/lib.rt:111:41
 enum-told : tie.Need-enum-told
 enum-told c = search needs
 
--- src/lib.rt:111:41
 mul-upward : tie.Need-mul-upward
 mul-upward c = search needs
 
--- src/lib.rt:111:27
 upward-requires-2 : tie.Need-upward-requires-2
 upward-requires-2 c κs = search needs
 
--- src/lib.rt:101:1
 returns-2 : tie.Need-returns-2
 returns-2 c = seek-hint 11 _ _ _ (omega arith) (c .before .before .before .before .before .before .before .pre .0) _ (c .before .before .before .upward .ensures) _ (c .before .i .given .1)
 
--- src/lib.rt:101:1
 returns-3 : tie.Need-returns-3
 returns-3 c = let row = c .before .before .before .before .before .before .before .args .row in let e : row / 32 * 32 / 32 ≡ row / 32 = omega arith in seek-round 11 _ _ _ (omega arith) (c .before .before .before .before .before .before .before .pre .0) _ (c .before .before .before .upward .ensures) _ (c .before .enum-told .given .1) (rw e at (c .upward2 .ensures))
 

@@ -12,19 +12,15 @@ use Rattle.bits.proofs.is_free.Reads as is-free-reads
 use Rattle.lower.proofs.find.Reads as find-reads
 use Rattle.lower.proofs.has_tree.Reads as has-tree-reads
 
--- src/lib.rt:132:32
 enum-told : tie.Need-enum-told
 enum-told c = search needs
 
--- src/lib.rt:132:16
 has-tree-requires : tie.Need-has-tree-requires
 has-tree-requires c κs = search needs
 
--- src/lib.rt:133:17
 find-requires : tie.Need-find-requires
 find-requires c κs = (search needs, has-block 11 _ _ (omega arith) (omega arith) (sym (c .before .has-tree .ensures) ∙ c .if1 .taken))
 
--- src/lib.rt:133:17
 returns : tie.Need-returns
 unfolding lowerFind
 returns c =
@@ -35,27 +31,21 @@ returns c =
       ← c .find .ensures,
     )
 
--- src/lib.rt:137:21
 enum-known-name : tie.Need-enum-known-name
 enum-known-name c = search needs
 
--- src/lib.rt:138:16
 has-tree-requires-2 : tie.Need-has-tree-requires-2
 has-tree-requires-2 c κs = search needs
 
--- src/lib.rt:139:48
 shr-is-free : tie.Need-shr-is-free
 shr-is-free c = search needs
 
--- src/lib.rt:139:20
 is-free-requires : tie.Need-is-free-requires
 is-free-requires c κs = frame-block 11 _ _ (omega arith) (omega arith) (c .before .before .before .before .before .before .pre) _ (sym (c .before .has-tree2 .ensures) ∙ c .if2 .taken)
 
--- src/lib.rt:140:38
 shr-t13 : tie.Need-shr-t13
 shr-t13 c = search needs
 
--- src/lib.rt:140:21
 returns-2 : tie.Need-returns-2
 unfolding lowerFind
 returns-2 c =
@@ -67,7 +57,6 @@ returns-2 c =
       c .if3 .taken,
     )
 
--- src/lib.rt:142:17
 returns-3 : tie.Need-returns-3
 unfolding lowerFind
 returns-3 c =
@@ -79,7 +68,6 @@ returns-3 c =
       c .if3 .left,
     )
 
--- src/lib.rt:126:1
 returns-4 : tie.Need-returns-4
 unfolding lowerFind
 returns-4 c =
@@ -89,7 +77,6 @@ returns-4 c =
       c .if1 .left,
     )
 
--- src/lib.rt:126:1
 returns-5 : tie.Need-returns-5
 unfolding lowerFind
 returns-5 c =

@@ -6,13 +6,11 @@ use Rattle.lower.proofs.has_tree.Tie as tie
 use Rattle.lower.proofs.has_tree.Reads as reads
 use Rattle.lower.proofs.has_tree.Lts as lts
 
--- src/lib.rt:249:9
 returns : tie.Need-returns
 unfolding hasTree
 returns c =
     rw (le-leb _ _ (c .if1 .taken))
 
--- src/lib.rt:245:1
 returns-2 : tie.Need-returns-2
 unfolding hasTree
 returns-2 c =

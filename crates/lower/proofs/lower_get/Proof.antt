@@ -13,35 +13,27 @@ use Rattle.bits.proofs.hold.Reads as hold-reads
 use Rattle.bits.proofs.size.Reads as size-reads
 use Rattle.lower.proofs.find_block.Reads as find-block-reads
 
--- src/lib.rt:154:11
 find-block-requires : tie.Need-find-block-requires
 find-block-requires c κs = search needs
 
--- src/lib.rt:155:19
 enum-known-j : tie.Need-enum-known-j
 enum-known-j c = search needs
 
--- src/lib.rt:156:25
 size-requires : tie.Need-size-requires
 size-requires c κs = search needs
 
--- src/lib.rt:156:21
 mul-f : tie.Need-mul-f
 mul-f c = let b = find-is 11 _ _ (omega arith) (omega arith) (c .before .before .before .before .before .before .before .pre) _ _ _ (sym (c .before .before .before .before .find-block .ensures) ∙ c .before .before .j .given .1) in let m = start-small _ _ _ _ (c .size .ensures) (b .block) in omega (arith, b .block .small)
 
--- src/lib.rt:157:13
 hold-requires : tie.Need-hold-requires
 hold-requires c κs = let b = find-is 11 _ _ (omega arith) (omega arith) (c .before .before .before .before .before .before .before .before .pre) _ _ _ (sym (c .before .before .before .before .before .find-block .ensures) ∙ c .before .before .before .j .given .1) in (b .block, b .free)
 
--- src/lib.rt:160:27
 enum-told : tie.Need-enum-told
 enum-told c = search needs
 
--- src/lib.rt:150:1
 same-length : tie.Need-same-length
 same-length c = search needs
 
--- src/lib.rt:150:1
 returns : tie.Need-returns
 unfolding lowerGet lowerTake
 returns c =
@@ -52,11 +44,9 @@ returns c =
       ← c .before .before .hold .ensures,
     )
 
--- src/lib.rt:150:1
 same-length-2 : tie.Need-same-length-2
 same-length-2 c = search needs
 
--- src/lib.rt:150:1
 returns-2 : tie.Need-returns-2
 unfolding lowerGet lowerTake
 returns-2 c =

@@ -13,27 +13,21 @@ use Rattle.lower.proofs.has_tree.Reads as has-tree-reads
 use Rattle.bits.proofs.is_held.Reads as is-held-reads
 use Rattle.bits.proofs.release.Reads as release-reads
 
--- src/lib.rt:264:8
 has-tree-requires : tie.Need-has-tree-requires
 has-tree-requires c κs = search needs
 
--- src/lib.rt:265:21
 shr-block : tie.Need-shr-block
 shr-block c = search needs
 
--- src/lib.rt:266:12
 is-held-requires : tie.Need-is-held-requires
 is-held-requires c κs = frame-block 11 _ _ (omega arith) (omega arith) (c .before .before .before .before .before .pre) _ (sym (c .before .before .has-tree .ensures) ∙ c .before .if1 .taken)
 
--- src/lib.rt:267:13
 release-requires : tie.Need-release-requires
 release-requires c κs = (frame-block 11 _ _ (omega arith) (omega arith) (c .before .before .before .before .before .before .before .before .pre) _ (sym (c .before .before .before .before .before .has-tree .ensures) ∙ c .before .before .before .before .if1 .taken), eqb-true _ _ (sym (c .before .before .is-held .ensures) ∙ c .before .if2 .taken))
 
--- src/lib.rt:268:13
 same-length : tie.Need-same-length
 same-length c = search needs
 
--- src/lib.rt:268:13
 returns : tie.Need-returns
 unfolding lowerPut
 returns c =
@@ -45,11 +39,9 @@ returns c =
       ← c .before .before .release .ensures,
     )
 
--- src/lib.rt:270:9
 same-length-2 : tie.Need-same-length-2
 same-length-2 c = search needs
 
--- src/lib.rt:270:9
 returns-2 : tie.Need-returns-2
 unfolding lowerPut
 returns-2 c =
@@ -60,11 +52,9 @@ returns-2 c =
       c .if2 .left,
     )
 
--- src/lib.rt:260:1
 same-length-3 : tie.Need-same-length-3
 same-length-3 c = search needs
 
--- src/lib.rt:260:1
 returns-3 : tie.Need-returns-3
 unfolding lowerPut
 returns-3 c =

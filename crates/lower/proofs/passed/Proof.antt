@@ -8,24 +8,19 @@ use Rattle.lower.proofs.passed.Reads as reads
 use Rattle.lower.proofs.passed.Lts as lts
 use Rattle.bits.proofs.is_held.Reads as is-held-reads
 
--- src/lib.rt:51:24
 sub-if1 : tie.Need-sub-if1
 sub-if1 c = search needs
 
--- src/lib.rt:51:16
 shr-if1 : tie.Need-shr-if1
 shr-if1 c = search needs
 
--- src/lib.rt:52:9
 returns : tie.Need-returns
 unfolding passedBy
 returns c = rw (lt-ltb _ _ (c .if1 .taken))
 
--- src/lib.rt:54:5
 is-held-requires : tie.Need-is-held-requires
 is-held-requires c κs = search needs
 
--- src/lib.rt:47:1
 returns-2 : tie.Need-returns-2
 unfolding passedBy
 returns-2 c = rw (le-ltb _ _ (c .before .if1 .left)) (c .is-held .ensures)

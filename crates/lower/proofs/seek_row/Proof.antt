@@ -9,39 +9,30 @@ use Rattle.lower.proofs.seek_row.Lts as lts
 use Rattle.bits.proofs.size.Reads as size-reads
 use Rattle.lower.proofs.seek_word.Reads as seek-word-reads
 
--- src/lib.rt:38:23
 mul-seek-word : tie.Need-mul-seek-word
 mul-seek-word c = search needs
 
--- src/lib.rt:38:23
 shared-slice-read-seek-word : tie.Need-shared-slice-read-seek-word
 shared-slice-read-seek-word c = search needs
 
--- src/lib.rt:38:9
 seek-word-requires : tie.Need-seek-word-requires
 seek-word-requires c κs = search needs
 
--- src/lib.rt:39:30
 sub-size : tie.Need-sub-size
 sub-size c = search needs
 
--- src/lib.rt:39:19
 size-requires : tie.Need-size-requires
 size-requires c κs = search needs
 
--- src/lib.rt:39:13
 mul-b : tie.Need-mul-b
 mul-b c = let m = word-mul _ (c .before .before .before .before .args .row) _ (c .size .ensures) in omega (arith, c .before .before .before .before .pre .1 .inside, c .before .before .before .before .pre .1 .small)
 
--- src/lib.rt:41:26
 add-t11 : tie.Need-add-t11
 add-t11 c = let m = word-mul _ (c .before .before .before .before .before .args .row) _ (c .before .size .ensures) in omega (arith, c .before .before .before .before .before .pre .1 .inside, c .before .before .before .before .before .pre .1 .small)
 
--- src/lib.rt:41:9
 returns : tie.Need-returns
 returns c = word-found _ _ _ (c .before .before .before .before .before .pre .0) _ _ (c .before .before .seek-word .ensures) (c .before .size .ensures) (c .if1 .taken)
 
--- src/lib.rt:34:1
 returns-2 : tie.Need-returns-2
 returns-2 c = word-none _ _ _ (c .before .before .before .before .before .pre .0) _ (c .before .size .result) (c .before .before .seek-word .ensures) (c .if1 .left)
 

@@ -10,55 +10,42 @@ use Rattle.bits.proofs.open_word.Reads as open-word-reads
 use Rattle.lower.proofs.seek.Reads as seek-reads
 use Rattle.lower.proofs.seek_row.Reads as seek-row-reads
 
--- src/lib.rt:86:19
 mul-end : tie.Need-mul-end
 mul-end c = search needs
 
--- src/lib.rt:86:19
 add-end : tie.Need-add-end
 add-end c = search needs
 
--- src/lib.rt:87:48
 sub-open-word : tie.Need-sub-open-word
 sub-open-word c = search needs
 
--- src/lib.rt:87:13
 open-word-requires : tie.Need-open-word-requires
 open-word-requires c κs = search needs
 
--- src/lib.rt:89:13
 returns : tie.Need-returns
 returns c = open-none _ _ _ _ _ (c .before .before .if1 .taken) (opened _ _ _ _ (c .before .open-word .ensures)) 11 _ (omega arith) (c .if2 .taken)
 
--- src/lib.rt:91:15
 seek-row-requires : tie.Need-seek-row-requires
 seek-row-requires c κs = let p = opened _ _ _ _ (c .before .open-word .ensures) in let b = c .before .before .before .before .pre .1 in (search needs, record { order = omega arith; inside = omega (arith, p .high, b .inside, c .if2 .left); small = b .small })
 
--- src/lib.rt:92:23
 enum-known-i : tie.Need-enum-known-i
 enum-known-i c = search needs
 
--- src/lib.rt:93:53
 enum-told : tie.Need-enum-told
 enum-told c = search needs
 
--- src/lib.rt:93:31
 seek-requires : tie.Need-seek-requires
 seek-requires c κs = search needs
 
--- src/lib.rt:96:9
 seek-requires-2 : tie.Need-seek-requires-2
 seek-requires-2 c κs = search needs
 
--- src/lib.rt:81:1
 returns-2 : tie.Need-returns-2
 returns-2 c = let p = opened _ _ _ _ (c .before .before .before .before .before .open-word .ensures) in open-found _ _ _ _ _ (c .before .before .before .before .before .before .if1 .taken) p 11 _ (omega arith) _ _ (omega arith) (omega (arith, p .high, c .before .before .before .before .if2 .left)) (c .before .before .before .seek-row .ensures) (c .before .i .given .1)
 
--- src/lib.rt:81:1
 returns-3 : tie.Need-returns-3
 returns-3 c = search needs
 
--- src/lib.rt:81:1
 returns-4 : tie.Need-returns-4
 returns-4 c = search needs
 

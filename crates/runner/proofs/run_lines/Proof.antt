@@ -1,3 +1,4 @@
+-- `runner::run_lines` meets its contract. Assumes nothing.
 use borrow.Author.Needs.{needs}
 use native.Mathlib.Omega.{arith}
 use Prim.Native.Nat.{ℕ, _+_, _-_, _*_, _≤_, _<_}
@@ -20,63 +21,48 @@ abbrev μ-loop : tie.MeasureT-loop
 μ-loop s number table₀ trees₀ locals₀ bits₀ out₀ i₀ at₀ n₀ now₀ table trees locals bits out i at n now =
     length s - i
 
--- src/main.rt:337:5
 loop-holds : tie.Need-loop-holds Inv-loop μ-loop
 loop-holds c = search needs
 
--- src/main.rt:338:13
 line-end-requires : tie.Need-line-end-requires Inv-loop μ-loop
 line-end-requires c κs = search needs
 
--- src/main.rt:345:20
 add-next : tie.Need-add-next Inv-loop μ-loop
 add-next c = search needs
 
--- src/main.rt:346:9
 wrapping-add-u64-requires : tie.Need-wrapping-add-u64-requires Inv-loop μ-loop
 wrapping-add-u64-requires c κs = search needs
 
--- src/main.rt:347:34
 part-line-in-room-start : tie.Need-part-line-in-room-start Inv-loop μ-loop
 part-line-in-room-start c = search needs
 
--- src/main.rt:347:34
 part-line-in-room-end : tie.Need-part-line-in-room-end Inv-loop μ-loop
 part-line-in-room-end c = search needs
 
--- src/main.rt:347:13
 line-in-room-requires : tie.Need-line-in-room-requires Inv-loop μ-loop
 line-in-room-requires c κs = search needs
 
--- src/main.rt:337:5
 loop-less : tie.Need-loop-less Inv-loop μ-loop
 loop-less c = search needs
 
--- src/main.rt:337:5
 loop-again : tie.Need-loop-again Inv-loop μ-loop
 loop-again c = search needs
 
--- src/main.rt:353:5
 flush-requires : tie.Need-flush-requires Inv-loop μ-loop
 flush-requires c κs = search needs
 
--- src/main.rt:323:1
 same-length : tie.Need-same-length Inv-loop μ-loop
 same-length c = search needs
 
--- src/main.rt:323:1
 same-length-2 : tie.Need-same-length-2 Inv-loop μ-loop
 same-length-2 c = search needs
 
--- src/main.rt:323:1
 same-length-3 : tie.Need-same-length-3 Inv-loop μ-loop
 same-length-3 c = search needs
 
--- src/main.rt:323:1
 same-length-4 : tie.Need-same-length-4 Inv-loop μ-loop
 same-length-4 c = search needs
 
--- src/main.rt:323:1
 returns : tie.Need-returns Inv-loop μ-loop
 returns c = search needs
 

@@ -21,12 +21,14 @@ all-rows-requires c κs = standing-small _ _ _ _ _ (sym (c .before .before .befo
 returns : tie.Need-returns
 unfolding reportOf ifte
 returns c =
-    rw (← c .before .before .before .before .stands .ensures,
-    c .before .before .before .if1 .taken,
-    eq-eqb _ _ (c .before .before .if2 .taken),
-    ← c .before .totals .ensures .0,
-    ← c .before .totals .ensures .1,
-    ← c .all-rows .ensures)
+    rw (
+      ← c .before .before .before .before .stands .ensures,
+      c .before .before .before .if1 .taken,
+      eq-eqb _ _ (c .before .before .if2 .taken),
+      ← c .before .totals .ensures .0,
+      ← c .before .totals .ensures .1,
+      ← c .all-rows .ensures,
+    )
 
 refused-requires : tie.Need-refused-requires
 refused-requires c κs = search needs
@@ -34,10 +36,12 @@ refused-requires c κs = search needs
 returns-2 : tie.Need-returns-2
 unfolding reportOf ifte
 returns-2 c =
-    rw (← c .before .before .before .stands .ensures,
-    c .before .before .if1 .taken,
-    ne-eqb _ _ (c .before .if2 .left),
-    c .refused .ensures)
+    rw (
+      ← c .before .before .before .stands .ensures,
+      c .before .before .if1 .taken,
+      ne-eqb _ _ (c .before .if2 .left),
+      c .refused .ensures,
+    )
 
 refused-requires-2 : tie.Need-refused-requires-2
 refused-requires-2 c κs = search needs
@@ -45,9 +49,11 @@ refused-requires-2 c κs = search needs
 returns-3 : tie.Need-returns-3
 unfolding reportOf ifte
 returns-3 c =
-    rw (← c .before .before .stands .ensures,
-    c .before .if1 .left,
-    c .refused2 .ensures)
+    rw (
+      ← c .before .before .stands .ensures,
+      c .before .if1 .left,
+      c .refused2 .ensures,
+    )
 
 pub tell-spec : {M : Type 1} → statement M
 tell-spec = tie.close (tie.spec stands-requires totals-requires all-rows-requires returns refused-requires returns-2 refused-requires-2 returns-3)

@@ -8,13 +8,11 @@ use Rattle.words.proofs.reserve_or_steal.Reads as reads
 use Rattle.words.proofs.reserve_or_steal.Lts as lts
 use Rattle.words.proofs.ask.Reads as ask-reads
 
--- src/lib.rt:167:9
 returns : tie.Need-returns
 unfolding reserveOf reserveKind
 returns c =
     rw (c .if1 .taken)
 
--- src/lib.rt:170:9
 returns-2 : tie.Need-returns-2
 unfolding reserveOf reserveKind
 returns-2 c =
@@ -23,35 +21,27 @@ returns-2 c =
       lt-ltb _ _ (c .if2 .taken),
     )
 
--- src/lib.rt:172:11
 ask-requires : tie.Need-ask-requires
 ask-requires c κs = search needs
 
--- src/lib.rt:173:26
 enum-told : tie.Need-enum-told
 enum-told c = search needs
 
--- src/lib.rt:175:19
 enum-told-2 : tie.Need-enum-told-2
 enum-told-2 c = search needs
 
--- src/lib.rt:180:13
 enum-told-3 : tie.Need-enum-told-3
 enum-told-3 c = search needs
 
--- src/lib.rt:185:13
 cast-t12 : tie.Need-cast-t12
 cast-t12 c = search needs
 
--- src/lib.rt:188:13
 enum-told-4 : tie.Need-enum-told-4
 enum-told-4 c = search needs
 
--- src/lib.rt:193:13
 cast-t14 : tie.Need-cast-t14
 cast-t14 c = search needs
 
--- src/lib.rt:162:1
 returns-3 : tie.Need-returns-3
 unfolding reserveOf reserveKind
 returns-3 c =
@@ -62,7 +52,6 @@ returns-3 c =
       c .enum-told .given .1,
     )
 
--- src/lib.rt:162:1
 returns-4 : tie.Need-returns-4
 unfolding reserveOf reserveKind
 returns-4 c =
@@ -73,7 +62,6 @@ returns-4 c =
       c .before .enum-told2 .given .1,
     )
 
--- src/lib.rt:162:1
 returns-5 : tie.Need-returns-5
 unfolding reserveOf reserveKind
 returns-5 c =
@@ -84,7 +72,6 @@ returns-5 c =
       c .before .enum-told3 .given .1,
     )
 
--- src/lib.rt:162:1
 returns-6 : tie.Need-returns-6
 unfolding reserveOf reserveKind
 returns-6 c =
