@@ -159,6 +159,18 @@ pub enum Answer {
     Text(String),
 }
 
+impl Answer {
+    /// The number of document 01, where it is an answer with one.
+    pub fn number(&self) -> Option<u8> {
+        match self {
+            Answer::Get(Said::Is(g)) => Some(g.number),
+            Answer::Put(Said::Is(n)) | Answer::Drain(Said::Is(n)) | Answer::Start(Said::Is(n)) => Some(*n),
+            Answer::Stats(Said::Is(s)) => Some(s.number),
+            _ => None,
+        }
+    }
+}
+
 fn unsaid<T>(name: &str, said: &Said<T>, f: &mut fmt::Formatter<'_>) -> fmt::Result {
     match said {
         Said::Is(_) => Ok(()),
@@ -262,10 +274,10 @@ pub fn perform(c: &Command, s: &mut State, engine: &mut impl Engine) -> Answer {
         Command::Pair(r, t, p) => s.table[r][t] = p,
         Command::Lend(l) => s.lend = l,
         Command::Rows(r) => s.rows = r,
-        Command::Entry(i, w) => s.trees.0[i] = w,
+        Command::Entry(i, w) => s.trees[i] = w,
         Command::Local(i, w) => s.locals[i] = w,
-        Command::Word(i, w) => s.bitmap.0[i] = w,
-        Command::Fill(from, count, w) => s.bitmap.0[from..from + count].fill(w),
+        Command::Word(i, w) => s.bitmap[i] = w,
+        Command::Fill(from, count, w) => s.bitmap[from..from + count].fill(w),
         Command::Start(free) => return Answer::Start(engine.start(s, free)),
         Command::Get(ref a) => return Answer::Get(engine.get(s, a)),
         Command::Put(ref a) => return Answer::Put(engine.put(s, a)),

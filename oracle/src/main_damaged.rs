@@ -1,0 +1,373 @@
+//! `damaged CALLS SEED`: damaged stores and arguments at every limit, through the port's archive and the second model.
+//! `damaged --planted`: that each of a list of wrong answers, planted in the port's, is reported.
+
+#![allow(dead_code)]
+
+mod coverage;
+mod damage;
+mod domain;
+mod engine;
+mod generate;
+mod line;
+mod model;
+mod port;
+mod raw;
+mod state;
+
+use std::time::Instant;
+
+use damage::{ROWS, STATES, calls, copied_words, limits, played, random_header, random_lengths, random_table, random_words, told};
+use engine::{Counted, Got, NAMES, Said};
+use generate::Random;
+use line::{Answer, Command, perform};
+use model::Model;
+use raw::{Lending, Part, Raw};
+use state::{State, WIDE_TREES};
+
+/// What was done to a sound store before the calls.
+const KINDS: [&str; 15] = [
+    "a bit of F", "a bit of the default", "a bit of the places", "a bit of the table", "a bit of a tree word", "a bit of a local word",
+    "a bit of a bitmap word", "several bits", "random header", "random table", "random lengths", "random words", "words copied",
+    "two of these", "nothing: arguments at limits",
+];
+const FLIPS: [Part; 7] = [Part::Frames, Part::Default, Part::Places, Part::Table, Part::Trees, Part::Locals, Part::Bitmap];
+const SEVERAL: usize = 7;
+const TWO: usize = 13;
+const LIMITS: usize = 14;
+/// Random stores of each kind, and gets and puts at limits, for a sound state.
+const RANDOM_STORES: usize = 700;
+
+/// F at its limits, each with exact lengths; the last asks for 1,025 trees.
+const SIZES: [u64; 11] = [1, 63, 64, 65, 2047, 2048, 2049, 4097, 2_097_151, 2_097_152, 2_097_153];
+
+#[derive(Clone, Copy, Default)]
+struct Counts {
+    stores: u64,
+    sound: u64,
+    calls: u64,
+    answers: [u64; 12],
+}
+
+struct Driver {
+    model: Model,
+    state: Box<State>,
+    lending: Lending,
+    raw: Raw,
+    kind: usize,
+    accepted: bool,
+    sound: bool,
+    counts: [Counts; KINDS.len()],
+    calls: u64,
+    planted: usize,
+}
+
+impl Driver {
+    fn new(planted: usize) -> Self {
+        let state = State::with_room(WIDE_TREES);
+        let raw = Raw::of(&state);
+        Driver {
+            model: Model::new(0),
+            lending: Lending::new(&raw),
+            state,
+            raw,
+            kind: 0,
+            accepted: false,
+            sound: false,
+            counts: [Counts::default(); KINDS.len()],
+            calls: 0,
+            planted,
+        }
+    }
+
+    /// The store that the next calls are lent.
+    fn take(&mut self, kind: usize, raw: Raw) {
+        raw.head_to(&mut self.state);
+        raw.words_to(&mut self.state);
+        self.raw = raw;
+        self.kind = kind;
+        self.accepted = domain::accepted(&self.state);
+        self.sound = domain::sound(&self.state);
+        self.counts[kind].stores += 1;
+        self.counts[kind].sound += self.sound as u64;
+    }
+
+    /// The number that refuses a call before its routes, by the tests of domain.rs, which the second model does not use.
+    fn refusal(&self, c: &Command) -> Option<u8> {
+        match c {
+            Command::Start(_) => (!self.accepted).then_some(10),
+            _ if !self.sound => Some(1),
+            Command::Get(ask) | Command::Put(ask) => domain::argument(&self.state, ask).or_else(|| {
+                let count = self.state.classes[ask.class as usize].unwrap_or(0) as u64;
+                ask.local.is_some_and(|l| l >= count).then_some(6)
+            }),
+            Command::Stats => (self.state.rows != 8).then_some(11),
+            _ => None,
+        }
+    }
+
+    /// One call on the store, by both. Err says what does not hold.
+    fn call(&mut self, c: &Command) -> Result<(), String> {
+        let refusal = self.refusal(c);
+        let by_model = perform(c, &mut self.state, &mut self.model);
+        self.lending.load(&self.raw);
+        let mut by_port = self.lending.call(c);
+        plant(self.planted, &mut by_port, &mut self.lending);
+        self.calls += 1;
+        let counts = &mut self.counts[self.kind];
+        counts.calls += 1;
+        if let Some(n) = by_model.number() {
+            counts.answers[n as usize] += 1;
+        }
+        let wrong = self.wrong(c, refusal, &by_model, &by_port);
+        self.raw.words_to(&mut self.state);
+        match wrong {
+            None => Ok(()),
+            Some(what) => Err(format!(
+                "call {}, on a store damaged by {}: {c}: {what}\nsecond model: {by_model}port: {by_port}",
+                self.calls, KINDS[self.kind]
+            )),
+        }
+    }
+
+    /// What does not hold after a call.
+    fn wrong(&self, c: &Command, refusal: Option<u8>, by_model: &Answer, by_port: &Answer) -> Option<&'static str> {
+        let number = by_port.number();
+        if by_port != by_model {
+            return Some("the answers differ");
+        }
+        if !ruled(c, refusal, by_port) {
+            return Some("the tests of domain.rs ask for another answer");
+        }
+        if !self.lending.has_words_of(&self.state) {
+            return Some("the words differ");
+        }
+        let may_change = matches!(number, Some(0 | 7 | 9)) && *c != Command::Stats;
+        if !may_change && !self.lending.unchanged(&self.raw) {
+            return Some("a word is changed");
+        }
+        if !self.lending.guards_stand(&self.raw) {
+            return Some("a word outside the lent ones, or of the table, is changed");
+        }
+        None
+    }
+}
+
+/// Whether an answer is the one of this refusal, or, where the call is not refused before its routes, one that can follow.
+fn ruled(c: &Command, refusal: Option<u8>, answer: &Answer) -> bool {
+    match (answer, refusal) {
+        (Answer::Get(said), Some(number)) => *said == Said::Is(Got { number, ..Got::default() }),
+        (Answer::Stats(said), Some(number)) => *said == Said::Is(Counted { number, ..Counted::default() }),
+        (_, Some(number)) => answer.number() == Some(number),
+        (Answer::Get(_), None) => matches!(answer.number(), Some(0 | 7)),
+        (Answer::Put(_), None) => matches!(answer.number(), Some(0 | 8)),
+        (_, None) => answer.number() == Some(0) && !matches!(c, Command::Get(_) | Command::Put(_)),
+    }
+}
+
+/// Each kind of call on a store.
+fn each_call(d: &mut Driver, r: &mut Random, sound: &State, kind: usize, raw: Raw) -> Result<(), String> {
+    d.take(kind, raw);
+    calls(r, sound).iter().try_for_each(|c| d.call(c))
+}
+
+/// Every single bit of a sound store flipped.
+fn every_flip(d: &mut Driver, r: &mut Random, sound: &State) -> Result<(), String> {
+    let mut raw = Raw::of(sound);
+    for (kind, part) in FLIPS.into_iter().enumerate() {
+        for bit in 0..raw.bits(part) {
+            raw.flip(part, bit);
+            each_call(d, r, sound, kind, raw.clone())?;
+            raw.flip(part, bit);
+        }
+    }
+    Ok(())
+}
+
+fn several_bits(r: &mut Random, raw: &mut Raw) {
+    for _ in 0..2 + r.below(4) {
+        let part = r.pick(&FLIPS);
+        let bits = raw.bits(part) as u64;
+        if bits > 0 {
+            raw.flip(part, r.below(bits) as usize);
+        }
+    }
+}
+
+fn random_damage(r: &mut Random, kind: usize, raw: &mut Raw) {
+    match kind {
+        SEVERAL => several_bits(r, raw),
+        8 => random_header(r, raw),
+        9 => random_table(r, raw),
+        10 => random_lengths(r, raw),
+        11 => random_words(r, raw),
+        12 => copied_words(r, raw),
+        _ => {
+            for _ in 0..2 {
+                let other = SEVERAL + r.below((TWO - SEVERAL) as u64) as usize;
+                random_damage(r, other, raw);
+            }
+        }
+    }
+}
+
+fn random_stores(d: &mut Driver, r: &mut Random, sound: &State) -> Result<(), String> {
+    for i in 0..RANDOM_STORES * (TWO - SEVERAL + 1) {
+        let kind = SEVERAL + i % (TWO - SEVERAL + 1);
+        let mut raw = Raw::of(sound);
+        random_damage(r, kind, &mut raw);
+        each_call(d, r, sound, kind, raw)?;
+    }
+    Ok(())
+}
+
+/// Statistics with each number of lent rows, on a store as it is.
+fn every_rows(d: &mut Driver, kind: usize, raw: &Raw) -> Result<(), String> {
+    for rows in ROWS {
+        d.take(kind, Raw { rows, ..raw.clone() });
+        d.call(&Command::Stats)?;
+    }
+    Ok(())
+}
+
+/// A sound state: all flips, random stores, all limits.
+fn round(d: &mut Driver, r: &mut Random, sound: &State) -> Result<(), String> {
+    assert!(domain::sound(sound));
+    every_flip(d, r, sound)?;
+    random_stores(d, r, sound)?;
+    let raw = Raw::of(sound);
+    every_rows(d, LIMITS, &raw)?;
+    let mut broken = raw.clone();
+    broken.flip(Part::Bitmap, 0);
+    every_rows(d, 6, &broken)?;
+    d.take(LIMITS, raw);
+    limits(sound).iter().try_for_each(|c| d.call(c))
+}
+
+/// F at its limits: starts, then calls and a share of the arguments at limits on what they leave.
+fn sizes(d: &mut Driver, r: &mut Random) -> Result<(), String> {
+    for frames in SIZES {
+        let mut s = State::with_room(WIDE_TREES);
+        (s.frames, s.default) = (frames, 1);
+        let small = told(STATES[0]);
+        (s.classes, s.table) = (small.classes, small.table);
+        d.take(LIMITS, Raw::of(&s));
+        for free in [false, true] {
+            d.call(&Command::Start(free))?;
+            perform(&Command::Start(free), &mut s, &mut Model::new(0));
+        }
+        let raw = Raw::of(&s);
+        each_call(d, r, &s, LIMITS, raw)?;
+        let all = limits(&s);
+        for _ in 0..1000 {
+            d.call(&r.pick(&all))?;
+        }
+    }
+    Ok(())
+}
+
+fn run(d: &mut Driver, calls: u64, seed: u64) -> Result<(), String> {
+    let mut r = Random(seed);
+    sizes(d, &mut r)?;
+    for text in STATES {
+        round(d, &mut r, &told(text))?;
+    }
+    while d.calls < calls {
+        let sound = played(&mut r);
+        round(d, &mut r, &sound)?;
+    }
+    Ok(())
+}
+
+/// Wrong answers that a run has to report.
+const PLANTED: [&str; 10] = [
+    "Broken answered as Done", "Config answered as Done", "Order answered as Bounds", "a refused get names a frame", "one look too many",
+    "one try too many", "a tree word changed at a refusal", "a bitmap word changed by statistics", "the word before the tree words written",
+    "the word after the local words written",
+];
+
+/// Changes the port's answer or words by the planted wrong answer of this number; 0 is none.
+fn plant(number: usize, answer: &mut Answer, lending: &mut Lending) {
+    let said = answer.number();
+    match (number, &mut *answer) {
+        (1, Answer::Drain(Said::Is(n @ 1))) | (2, Answer::Start(Said::Is(n @ 10))) => *n = 0,
+        (3, Answer::Put(Said::Is(n @ 2))) => *n = 3,
+        (4, Answer::Get(Said::Is(g))) if g.number == 1 => g.frame = 1,
+        (5, Answer::Get(Said::Is(g))) if g.number == 0 => g.looks += 1,
+        (6, Answer::Get(Said::Is(g))) if g.number == 7 => g.tries += 1,
+        (7, Answer::Put(_)) if said != Some(0) => {
+            if let Some(w) = lending.trees.lent().last_mut() {
+                *w ^= 1 << 31;
+            }
+        }
+        (8, Answer::Stats(_)) if said == Some(0) => lending.bitmap.lent()[0] ^= 1,
+        (9, Answer::Drain(_)) if said == Some(0) => lending.trees.words[15] ^= 1,
+        (10, Answer::Get(_)) if said == Some(0) => {
+            let after = 16 + lending.locals.lent().len();
+            lending.locals.words[after] = 0;
+        }
+        _ => {}
+    }
+}
+
+fn every_planted() -> bool {
+    let mut all = true;
+    for (i, text) in PLANTED.iter().enumerate() {
+        let mut d = Driver::new(i + 1);
+        match run(&mut d, 0, 1) {
+            Err(report) => println!("reported: {text}: {}", report.lines().next().unwrap_or("")),
+            Ok(()) => {
+                println!("not reported: {text}");
+                all = false;
+            }
+        }
+    }
+    all
+}
+
+/// A row for each kind of damage: stores, those that are sound, calls, answers by number.
+fn print_table(counts: &[Counts]) {
+    print!("{:30} {:>7} {:>7} {:>8}", "damage", "stores", "sound", "calls");
+    NAMES.iter().for_each(|name| print!(" {name:>10}"));
+    println!();
+    let mut sum = Counts::default();
+    for (kind, c) in KINDS.iter().zip(counts) {
+        print_row(kind, c);
+        sum.stores += c.stores;
+        sum.sound += c.sound;
+        sum.calls += c.calls;
+        sum.answers.iter_mut().zip(c.answers).for_each(|(sum, n)| *sum += n);
+    }
+    print_row("all", &sum);
+}
+
+fn print_row(name: &str, c: &Counts) {
+    print!("{name:30} {:>7} {:>7} {:>8}", c.stores, c.sound, c.calls);
+    c.answers.iter().for_each(|n| print!(" {n:>10}"));
+    println!();
+}
+
+fn main() {
+    let args: Vec<String> = std::env::args().skip(1).collect();
+    if args == ["--planted"] {
+        std::process::exit(!every_planted() as i32);
+    }
+    let numbers: Vec<u64> = args.iter().filter_map(|a| a.parse().ok()).collect();
+    let [calls, seed] = numbers[..] else {
+        eprintln!("damaged CALLS SEED, or damaged --planted");
+        std::process::exit(1)
+    };
+    let begun = Instant::now();
+    let mut d = Driver::new(0);
+    if let Err(report) = run(&mut d, calls, seed) {
+        println!("difference: seed {seed} {report}");
+        std::process::exit(1)
+    }
+    print_table(&d.counts);
+    let flips: u64 = d.counts[..SEVERAL].iter().map(|c| c.stores).sum();
+    let sound: u64 = d.counts[..SEVERAL].iter().map(|c| c.sound).sum();
+    println!(
+        "{} calls from seed {seed}: no difference; {flips} stores with one bit flipped, {sound} of them sound; {:.1} s",
+        d.calls,
+        begun.elapsed().as_secs_f64()
+    );
+}
