@@ -10,6 +10,7 @@ mod engine;
 mod generate;
 mod line;
 mod model;
+mod planted;
 mod port;
 mod raw;
 mod state;
@@ -21,21 +22,43 @@ use engine::{Counted, Got, NAMES, Said};
 use generate::Random;
 use line::{Answer, Command, perform};
 use model::Model;
+use planted::{PLANTED, plant, plant_both};
 use raw::{Lending, Part, Raw};
 use state::{State, WIDE_TREES};
 
-/// What was done to a sound store before the calls.
-const KINDS: [&str; 15] = [
-    "a bit of F", "a bit of the default", "a bit of the places", "a bit of the table", "a bit of a tree word", "a bit of a local word",
-    "a bit of a bitmap word", "several bits", "random header", "random table", "random lengths", "random words", "words copied",
-    "two of these", "nothing: arguments at limits",
+/// Parts of a store of which every bit is flipped.
+const FLIPS: [(&str, Part); 7] = [
+    ("a bit of F", Part::Frames),
+    ("a bit of the default", Part::Default),
+    ("a bit of the places", Part::Places),
+    ("a bit of the table", Part::Table),
+    ("a bit of a tree word", Part::Trees),
+    ("a bit of a local word", Part::Locals),
+    ("a bit of a bitmap word", Part::Bitmap),
 ];
-const FLIPS: [Part; 7] = [Part::Frames, Part::Default, Part::Places, Part::Table, Part::Trees, Part::Locals, Part::Bitmap];
-const SEVERAL: usize = 7;
-const TWO: usize = 13;
-const LIMITS: usize = 14;
-/// Random stores of each kind, and gets and puts at limits, for a sound state.
-const RANDOM_STORES: usize = 700;
+/// Damage that is drawn.
+const DRAWN: [(&str, fn(&mut Random, &mut Raw)); 7] = [
+    ("several bits", several_bits),
+    ("random header", random_header),
+    ("random table", random_table),
+    ("random lengths", random_lengths),
+    ("random words", random_words),
+    ("words copied", copied_words),
+    ("two of the last six", two_of_these),
+];
+/// Kinds of damage: the flips, those that are drawn, and none.
+const KINDS: usize = FLIPS.len() + DRAWN.len() + 1;
+const LIMITS: usize = KINDS - 1;
+
+fn name(kind: usize) -> &'static str {
+    let names = FLIPS.iter().map(|f| f.0).chain(DRAWN.iter().map(|d| d.0));
+    names.chain(["none: arguments at limits"]).nth(kind).unwrap_or("")
+}
+
+/// Stores of each kind of drawn damage for a sound state.
+const DRAWN_STORES: usize = 700;
+/// Bits flipped on a store of each size at the limits of F.
+const SIZE_FLIPS: usize = 30;
 
 /// F at its limits, each with exact lengths; the last asks for 1,025 trees.
 const SIZES: [u64; 11] = [1, 63, 64, 65, 2047, 2048, 2049, 4097, 2_097_151, 2_097_152, 2_097_153];
@@ -56,7 +79,7 @@ struct Driver {
     kind: usize,
     accepted: bool,
     sound: bool,
-    counts: [Counts; KINDS.len()],
+    counts: [Counts; KINDS],
     calls: u64,
     planted: usize,
 }
@@ -73,7 +96,7 @@ impl Driver {
             kind: 0,
             accepted: false,
             sound: false,
-            counts: [Counts::default(); KINDS.len()],
+            counts: [Counts::default(); KINDS],
             calls: 0,
             planted,
         }
@@ -108,10 +131,11 @@ impl Driver {
     /// One call on the store, by both. Err says what does not hold.
     fn call(&mut self, c: &Command) -> Result<(), String> {
         let refusal = self.refusal(c);
-        let by_model = perform(c, &mut self.state, &mut self.model);
+        let mut by_model = perform(c, &mut self.state, &mut self.model);
         self.lending.load(&self.raw);
         let mut by_port = self.lending.call(c);
         plant(self.planted, &mut by_port, &mut self.lending);
+        plant_both(self.planted, &mut by_model, &mut self.state, &mut by_port, &mut self.lending);
         self.calls += 1;
         let counts = &mut self.counts[self.kind];
         counts.calls += 1;
@@ -123,8 +147,9 @@ impl Driver {
         match wrong {
             None => Ok(()),
             Some(what) => Err(format!(
-                "call {}, on a store damaged by {}: {c}: {what}\nsecond model: {by_model}port: {by_port}",
-                self.calls, KINDS[self.kind]
+                "call {} (damage: {}): {c}: {what}\nsecond model: {by_model}port: {by_port}",
+                self.calls,
+                name(self.kind)
             )),
         }
     }
@@ -173,7 +198,7 @@ fn each_call(d: &mut Driver, r: &mut Random, sound: &State, kind: usize, raw: Ra
 /// Every single bit of a sound store flipped.
 fn every_flip(d: &mut Driver, r: &mut Random, sound: &State) -> Result<(), String> {
     let mut raw = Raw::of(sound);
-    for (kind, part) in FLIPS.into_iter().enumerate() {
+    for (kind, (_, part)) in FLIPS.into_iter().enumerate() {
         for bit in 0..raw.bits(part) {
             raw.flip(part, bit);
             each_call(d, r, sound, kind, raw.clone())?;
@@ -183,9 +208,23 @@ fn every_flip(d: &mut Driver, r: &mut Random, sound: &State) -> Result<(), Strin
     Ok(())
 }
 
+/// Some single bits of a sound store flipped.
+fn some_flips(d: &mut Driver, r: &mut Random, sound: &State) -> Result<(), String> {
+    let mut raw = Raw::of(sound);
+    for i in 0..SIZE_FLIPS {
+        let kind = i % FLIPS.len();
+        let part = FLIPS[kind].1;
+        let bit = r.below(raw.bits(part) as u64) as usize;
+        raw.flip(part, bit);
+        each_call(d, r, sound, kind, raw.clone())?;
+        raw.flip(part, bit);
+    }
+    Ok(())
+}
+
 fn several_bits(r: &mut Random, raw: &mut Raw) {
     for _ in 0..2 + r.below(4) {
-        let part = r.pick(&FLIPS);
+        let (_, part) = r.pick(&FLIPS);
         let bits = raw.bits(part) as u64;
         if bits > 0 {
             raw.flip(part, r.below(bits) as usize);
@@ -193,57 +232,47 @@ fn several_bits(r: &mut Random, raw: &mut Raw) {
     }
 }
 
-fn random_damage(r: &mut Random, kind: usize, raw: &mut Raw) {
-    match kind {
-        SEVERAL => several_bits(r, raw),
-        8 => random_header(r, raw),
-        9 => random_table(r, raw),
-        10 => random_lengths(r, raw),
-        11 => random_words(r, raw),
-        12 => copied_words(r, raw),
-        _ => {
-            for _ in 0..2 {
-                let other = SEVERAL + r.below((TWO - SEVERAL) as u64) as usize;
-                random_damage(r, other, raw);
-            }
-        }
+fn two_of_these(r: &mut Random, raw: &mut Raw) {
+    for _ in 0..2 {
+        let (_, damage) = DRAWN[r.below(DRAWN.len() as u64 - 1) as usize];
+        damage(r, raw);
     }
 }
 
-fn random_stores(d: &mut Driver, r: &mut Random, sound: &State) -> Result<(), String> {
-    for i in 0..RANDOM_STORES * (TWO - SEVERAL + 1) {
-        let kind = SEVERAL + i % (TWO - SEVERAL + 1);
+fn drawn_stores(d: &mut Driver, r: &mut Random, sound: &State) -> Result<(), String> {
+    for i in 0..DRAWN_STORES * DRAWN.len() {
+        let kind = i % DRAWN.len();
         let mut raw = Raw::of(sound);
-        random_damage(r, kind, &mut raw);
-        each_call(d, r, sound, kind, raw)?;
+        DRAWN[kind].1(r, &mut raw);
+        each_call(d, r, sound, FLIPS.len() + kind, raw)?;
     }
     Ok(())
 }
 
 /// Statistics with each number of lent rows, on a store as it is.
-fn every_rows(d: &mut Driver, kind: usize, raw: &Raw) -> Result<(), String> {
+fn every_rows(d: &mut Driver, raw: &Raw) -> Result<(), String> {
     for rows in ROWS {
-        d.take(kind, Raw { rows, ..raw.clone() });
+        d.take(LIMITS, Raw { rows, ..raw.clone() });
         d.call(&Command::Stats)?;
     }
     Ok(())
 }
 
-/// A sound state: all flips, random stores, all limits.
+/// A sound state: every flip, damage that is drawn, every limit.
 fn round(d: &mut Driver, r: &mut Random, sound: &State) -> Result<(), String> {
     assert!(domain::sound(sound));
     every_flip(d, r, sound)?;
-    random_stores(d, r, sound)?;
+    drawn_stores(d, r, sound)?;
     let raw = Raw::of(sound);
-    every_rows(d, LIMITS, &raw)?;
+    every_rows(d, &raw)?;
     let mut broken = raw.clone();
     broken.flip(Part::Bitmap, 0);
-    every_rows(d, 6, &broken)?;
+    every_rows(d, &broken)?;
     d.take(LIMITS, raw);
     limits(sound).iter().try_for_each(|c| d.call(c))
 }
 
-/// F at its limits: starts, then calls and a share of the arguments at limits on what they leave.
+/// F at its limits: starts, then on what they leave calls, some bits flipped, and a share of the arguments at limits.
 fn sizes(d: &mut Driver, r: &mut Random) -> Result<(), String> {
     for frames in SIZES {
         let mut s = State::with_room(WIDE_TREES);
@@ -255,8 +284,8 @@ fn sizes(d: &mut Driver, r: &mut Random) -> Result<(), String> {
             d.call(&Command::Start(free))?;
             perform(&Command::Start(free), &mut s, &mut Model::new(0));
         }
-        let raw = Raw::of(&s);
-        each_call(d, r, &s, LIMITS, raw)?;
+        some_flips(d, r, &s)?;
+        each_call(d, r, &s, LIMITS, Raw::of(&s))?;
         let all = limits(&s);
         for _ in 0..1000 {
             d.call(&r.pick(&all))?;
@@ -278,37 +307,7 @@ fn run(d: &mut Driver, calls: u64, seed: u64) -> Result<(), String> {
     Ok(())
 }
 
-/// Wrong answers that a run has to report.
-const PLANTED: [&str; 10] = [
-    "Broken answered as Done", "Config answered as Done", "Order answered as Bounds", "a refused get names a frame", "one look too many",
-    "one try too many", "a tree word changed at a refusal", "a bitmap word changed by statistics", "the word before the tree words written",
-    "the word after the local words written",
-];
-
-/// Changes the port's answer or words by the planted wrong answer of this number; 0 is none.
-fn plant(number: usize, answer: &mut Answer, lending: &mut Lending) {
-    let said = answer.number();
-    match (number, &mut *answer) {
-        (1, Answer::Drain(Said::Is(n @ 1))) | (2, Answer::Start(Said::Is(n @ 10))) => *n = 0,
-        (3, Answer::Put(Said::Is(n @ 2))) => *n = 3,
-        (4, Answer::Get(Said::Is(g))) if g.number == 1 => g.frame = 1,
-        (5, Answer::Get(Said::Is(g))) if g.number == 0 => g.looks += 1,
-        (6, Answer::Get(Said::Is(g))) if g.number == 7 => g.tries += 1,
-        (7, Answer::Put(_)) if said != Some(0) => {
-            if let Some(w) = lending.trees.lent().last_mut() {
-                *w ^= 1 << 31;
-            }
-        }
-        (8, Answer::Stats(_)) if said == Some(0) => lending.bitmap.lent()[0] ^= 1,
-        (9, Answer::Drain(_)) if said == Some(0) => lending.trees.words[15] ^= 1,
-        (10, Answer::Get(_)) if said == Some(0) => {
-            let after = 16 + lending.locals.lent().len();
-            lending.locals.words[after] = 0;
-        }
-        _ => {}
-    }
-}
-
+/// Whether a run reports each planted wrong answer.
 fn every_planted() -> bool {
     let mut all = true;
     for (i, text) in PLANTED.iter().enumerate() {
@@ -330,8 +329,8 @@ fn print_table(counts: &[Counts]) {
     NAMES.iter().for_each(|name| print!(" {name:>10}"));
     println!();
     let mut sum = Counts::default();
-    for (kind, c) in KINDS.iter().zip(counts) {
-        print_row(kind, c);
+    for (kind, c) in counts.iter().enumerate() {
+        print_row(name(kind), c);
         sum.stores += c.stores;
         sum.sound += c.sound;
         sum.calls += c.calls;
@@ -363,8 +362,8 @@ fn main() {
         std::process::exit(1)
     }
     print_table(&d.counts);
-    let flips: u64 = d.counts[..SEVERAL].iter().map(|c| c.stores).sum();
-    let sound: u64 = d.counts[..SEVERAL].iter().map(|c| c.sound).sum();
+    let flips: u64 = d.counts[..FLIPS.len()].iter().map(|c| c.stores).sum();
+    let sound: u64 = d.counts[..FLIPS.len()].iter().map(|c| c.sound).sum();
     println!(
         "{} calls from seed {seed}: no difference; {flips} stores with one bit flipped, {sound} of them sound; {:.1} s",
         d.calls,

@@ -1,4 +1,4 @@
-//! `port CALLS SEED`: generated calls through the port's archive, the oracle and the second model: answer, counts and every word after every call.
+//! `port CALLS SEED [MISREADING]`: generated calls through the port's archive, the oracle and the second model: answer, counts and every word after every call.
 
 #![allow(dead_code)]
 
@@ -23,7 +23,7 @@ use rust::Oracle;
 use state::{ROOM_TREES, State, WIDE_TREES};
 
 /// One sequence in so many has more trees than the line form has room for.
-const WIDE_ONE_IN: u64 = 5;
+const WIDE_ONE_IN: u64 = 10;
 
 struct Three {
     model: Model,
@@ -101,13 +101,17 @@ impl Sink for Three {
 
 fn main() {
     let args: Vec<u64> = std::env::args().skip(1).filter_map(|a| a.parse().ok()).collect();
-    let [calls, seed] = args[..] else {
-        eprintln!("port CALLS SEED");
-        std::process::exit(1)
+    let (calls, seed, misreading) = match args[..] {
+        [calls, seed] => (calls, seed, 0),
+        [calls, seed, misreading] => (calls, seed, misreading as u32),
+        _ => {
+            eprintln!("port CALLS SEED [MISREADING]");
+            std::process::exit(1)
+        }
     };
     let begun = Instant::now();
     let mut three = Three {
-        model: Model::new(0),
+        model: Model::new(misreading),
         oracle: Oracle::new(),
         port: Port,
         of_model: State::with_room(WIDE_TREES),
