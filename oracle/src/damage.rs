@@ -130,12 +130,11 @@ fn limit_classes(s: &State) -> Vec<(u64, Option<u64>)> {
 /// Gets and puts with every argument at every limit.
 pub fn limits(s: &State) -> Vec<Command> {
     let classes = limit_classes(s);
+    let blocks = ORDERS.into_iter().flat_map(|order| limit_frames(s.frames, 1 << order.min(11)).into_iter().map(move |f| (order, f)));
     let mut all = Vec::new();
-    for order in ORDERS {
-        for frame in limit_frames(s.frames, 1 << order.min(11)) {
-            let asks = classes.iter().map(|&(class, local)| Ask { frame, order, class, local });
-            all.extend(asks.flat_map(|ask| [Command::Get(ask), Command::Put(Ask { frame: frame.or(Some(0)), ..ask })]));
-        }
+    for (order, frame) in blocks {
+        let asks = classes.iter().map(|&(class, local)| Ask { frame, order, class, local });
+        all.extend(asks.flat_map(|ask| [Command::Get(ask), Command::Put(Ask { frame: frame.or(Some(0)), ..ask })]));
     }
     all
 }

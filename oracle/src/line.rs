@@ -3,7 +3,7 @@
 use std::fmt;
 use std::io::{self, Read, Write};
 
-use crate::engine::{Ask, Counted, Engine, Got, NAMES, Said};
+use crate::engine::{Ask, Counted, Engine, Got, Said, outcome};
 use crate::state::{Pair, ROOM_LOCALS, ROOM_ROWS, ROOM_TREES, ROOM_WORDS, State};
 
 #[derive(Clone, Copy, PartialEq, Eq, Debug)]
@@ -183,7 +183,7 @@ fn unsaid<T>(name: &str, said: &Said<T>, f: &mut fmt::Formatter<'_>) -> fmt::Res
 impl fmt::Display for Answer {
     fn fmt(&self, f: &mut fmt::Formatter<'_>) -> fmt::Result {
         let plain = |f: &mut fmt::Formatter<'_>, name, said: &Said<u8>| match said {
-            Said::Is(n) => writeln!(f, "{name} {n} {}", NAMES[*n as usize]),
+            Said::Is(n) => writeln!(f, "{name} {n} {}", outcome(*n)),
             other => unsaid(name, other, f),
         };
         match self {
@@ -193,11 +193,11 @@ impl fmt::Display for Answer {
             Answer::Drain(said) => plain(f, "drain", said),
             Answer::Get(Said::Is(g)) => {
                 let (frame, class) = if g.number == 0 { (Some(g.frame), Some(g.class)) } else { (None, None) };
-                let name = NAMES[g.number as usize];
                 writeln!(
                     f,
-                    "get {} {name} frame {} class {} looks {} tries {}",
+                    "get {} {} frame {} class {} looks {} tries {}",
                     g.number,
+                    outcome(g.number),
                     Maybe(frame),
                     Maybe(class),
                     g.looks,
@@ -206,7 +206,7 @@ impl fmt::Display for Answer {
             }
             Answer::Get(other) => unsaid("get", other, f),
             Answer::Stats(Said::Is(c)) => {
-                writeln!(f, "stats {} {} free {} trees {}", c.number, NAMES[c.number as usize], c.free, c.trees)?;
+                writeln!(f, "stats {} {} free {} trees {}", c.number, outcome(c.number), c.free, c.trees)?;
                 if c.number == 0 {
                     for (class, row) in c.rows.iter().enumerate() {
                         writeln!(f, "row {class} free {} alloc {} used {}", row.free, row.alloc, row.used)?;

@@ -17,6 +17,7 @@ mod state;
 
 use std::time::Instant;
 
+use coverage::TEXTS;
 use damage::{ROWS, STATES, calls, copied_words, limits, played, random_header, random_lengths, random_table, random_words, told};
 use engine::{Counted, Got, NAMES, Said};
 use generate::Random;
@@ -156,17 +157,16 @@ impl Driver {
 
     /// What does not hold after a call.
     fn wrong(&self, c: &Command, refusal: Option<u8>, by_model: &Answer, by_port: &Answer) -> Option<&'static str> {
-        let number = by_port.number();
         if by_port != by_model {
             return Some("the answers differ");
         }
-        if !ruled(c, refusal, by_port) {
+        if !ruled(refusal, by_port) {
             return Some("the tests of domain.rs ask for another answer");
         }
         if !self.lending.has_words_of(&self.state) {
             return Some("the words differ");
         }
-        let may_change = matches!(number, Some(0 | 7 | 9)) && *c != Command::Stats;
+        let may_change = matches!(by_port.number(), Some(0 | 7 | 9)) && *c != Command::Stats;
         if !may_change && !self.lending.unchanged(&self.raw) {
             return Some("a word is changed");
         }
@@ -178,14 +178,14 @@ impl Driver {
 }
 
 /// Whether an answer is the one of this refusal, or, where the call is not refused before its routes, one that can follow.
-fn ruled(c: &Command, refusal: Option<u8>, answer: &Answer) -> bool {
+fn ruled(refusal: Option<u8>, answer: &Answer) -> bool {
     match (answer, refusal) {
         (Answer::Get(said), Some(number)) => *said == Said::Is(Got { number, ..Got::default() }),
         (Answer::Stats(said), Some(number)) => *said == Said::Is(Counted { number, ..Counted::default() }),
         (_, Some(number)) => answer.number() == Some(number),
         (Answer::Get(_), None) => matches!(answer.number(), Some(0 | 7)),
         (Answer::Put(_), None) => matches!(answer.number(), Some(0 | 8)),
-        (_, None) => answer.number() == Some(0) && !matches!(c, Command::Get(_) | Command::Put(_)),
+        (_, None) => answer.number() == Some(0),
     }
 }
 
@@ -195,15 +195,22 @@ fn each_call(d: &mut Driver, r: &mut Random, sound: &State, kind: usize, raw: Ra
     calls(r, sound).iter().try_for_each(|c| d.call(c))
 }
 
+/// Each kind of call on a sound store with one bit flipped; a flip's part is its kind of damage.
+fn flipped(d: &mut Driver, r: &mut Random, sound: &State, raw: &mut Raw, kind: usize, bit: usize) -> Result<(), String> {
+    let part = FLIPS[kind].1;
+    raw.flip(part, bit);
+    each_call(d, r, sound, kind, raw.clone())?;
+    raw.flip(part, bit);
+    Ok(())
+}
+
 /// Every single bit of a sound store flipped.
 fn every_flip(d: &mut Driver, r: &mut Random, sound: &State) -> Result<(), String> {
     let mut raw = Raw::of(sound);
-    for (kind, (_, part)) in FLIPS.into_iter().enumerate() {
-        for bit in 0..raw.bits(part) {
-            raw.flip(part, bit);
-            each_call(d, r, sound, kind, raw.clone())?;
-            raw.flip(part, bit);
-        }
+    let bits = FLIPS.map(|(_, part)| raw.bits(part));
+    let flips = (0..FLIPS.len()).flat_map(|kind| (0..bits[kind]).map(move |bit| (kind, bit)));
+    for (kind, bit) in flips {
+        flipped(d, r, sound, &mut raw, kind, bit)?;
     }
     Ok(())
 }
@@ -211,13 +218,9 @@ fn every_flip(d: &mut Driver, r: &mut Random, sound: &State) -> Result<(), Strin
 /// Some single bits of a sound store flipped.
 fn some_flips(d: &mut Driver, r: &mut Random, sound: &State) -> Result<(), String> {
     let mut raw = Raw::of(sound);
-    for i in 0..SIZE_FLIPS {
-        let kind = i % FLIPS.len();
-        let part = FLIPS[kind].1;
-        let bit = r.below(raw.bits(part) as u64) as usize;
-        raw.flip(part, bit);
-        each_call(d, r, sound, kind, raw.clone())?;
-        raw.flip(part, bit);
+    for kind in (0..SIZE_FLIPS).map(|i| i % FLIPS.len()) {
+        let bit = r.below(raw.bits(FLIPS[kind].1) as u64) as usize;
+        flipped(d, r, sound, &mut raw, kind, bit)?;
     }
     Ok(())
 }
@@ -272,34 +275,26 @@ fn round(d: &mut Driver, r: &mut Random, sound: &State) -> Result<(), String> {
     limits(sound).iter().try_for_each(|c| d.call(c))
 }
 
-/// F at its limits: starts, then on what they leave calls, some bits flipped, and a share of the arguments at limits.
-fn sizes(d: &mut Driver, r: &mut Random) -> Result<(), String> {
-    for frames in SIZES {
-        let mut s = State::with_room(WIDE_TREES);
-        (s.frames, s.default) = (frames, 1);
-        let small = told(STATES[0]);
-        (s.classes, s.table) = (small.classes, small.table);
-        d.take(LIMITS, Raw::of(&s));
-        for free in [false, true] {
-            d.call(&Command::Start(free))?;
-            perform(&Command::Start(free), &mut s, &mut Model::new(0));
-        }
-        some_flips(d, r, &s)?;
-        each_call(d, r, &s, LIMITS, Raw::of(&s))?;
-        let all = limits(&s);
-        for _ in 0..1000 {
-            d.call(&r.pick(&all))?;
-        }
-    }
-    Ok(())
+/// A store of so many frames: starts, then on what they leave calls, some bits flipped, and a share of the arguments at
+/// limits.
+fn at_size(d: &mut Driver, r: &mut Random, frames: u64) -> Result<(), String> {
+    let small = told(STATES[0]);
+    let mut s = State::with_room(WIDE_TREES);
+    (s.frames, s.default, s.classes, s.table) = (frames, small.default, small.classes, small.table);
+    d.take(LIMITS, Raw::of(&s));
+    d.call(&Command::Start(false))?;
+    d.call(&Command::Start(true))?;
+    perform(&Command::Start(true), &mut s, &mut Model::new(0));
+    some_flips(d, r, &s)?;
+    each_call(d, r, &s, LIMITS, Raw::of(&s))?;
+    let all = limits(&s);
+    (0..1000).try_for_each(|_| d.call(&r.pick(&all)))
 }
 
 fn run(d: &mut Driver, calls: u64, seed: u64) -> Result<(), String> {
     let mut r = Random(seed);
-    sizes(d, &mut r)?;
-    for text in STATES {
-        round(d, &mut r, &told(text))?;
-    }
+    SIZES.into_iter().try_for_each(|frames| at_size(d, &mut r, frames))?;
+    STATES.into_iter().try_for_each(|text| round(d, &mut r, &told(text)))?;
     while d.calls < calls {
         let sound = played(&mut r);
         round(d, &mut r, &sound)?;
@@ -339,6 +334,17 @@ fn print_table(counts: &[Counts]) {
     print_row("all", &sum);
 }
 
+/// A row for each reason of Broken and Config that the second model knows. Whether every one was met.
+fn print_reasons(counts: &[u64]) -> bool {
+    let reasons = TEXTS.iter().zip(counts).filter(|(text, _)| text.starts_with("Broken:") || text.starts_with("start: Config"));
+    let mut all = true;
+    for (text, times) in reasons {
+        println!("{times:>12}  {text}");
+        all &= *times > 0;
+    }
+    all
+}
+
 fn print_row(name: &str, c: &Counts) {
     print!("{name:30} {:>7} {:>7} {:>8}", c.stores, c.sound, c.calls);
     c.answers.iter().for_each(|n| print!(" {n:>10}"));
@@ -362,6 +368,10 @@ fn main() {
         std::process::exit(1)
     }
     print_table(&d.counts);
+    if !print_reasons(&d.model.coverage.counts) {
+        println!("a reason of Broken or Config was not met");
+        std::process::exit(1)
+    }
     let flips: u64 = d.counts[..FLIPS.len()].iter().map(|c| c.stores).sum();
     let sound: u64 = d.counts[..FLIPS.len()].iter().map(|c| c.sound).sum();
     println!(

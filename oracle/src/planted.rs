@@ -2,7 +2,7 @@
 
 use crate::engine::Said;
 use crate::line::Answer;
-use crate::raw::Lending;
+use crate::raw::{GUARDS, Lending};
 use crate::state::State;
 
 /// Wrong answers that a run has to report. The last two are planted in the second model's answers too, so that only the
@@ -28,9 +28,9 @@ pub fn plant(number: usize, answer: &mut Answer, lending: &mut Lending) {
             }
         }
         (8, Answer::Stats(_)) if said == Some(0) => lending.bitmap.lent()[0] ^= 1,
-        (9, Answer::Drain(_)) if said == Some(0) => lending.trees.words[15] ^= 1,
+        (9, Answer::Drain(_)) if said == Some(0) => lending.trees.words[GUARDS - 1] ^= 1,
         (10, Answer::Get(_)) if said == Some(0) => {
-            let after = 16 + lending.locals.lent().len();
+            let after = GUARDS + lending.locals.lent().len();
             lending.locals.words[after] = 0;
         }
         _ => {}

@@ -1,7 +1,7 @@
 //! A store as the library takes it: any header, any table words, buffers of any lengths; and the same between guard words.
 
-use crate::line::{Answer, Command};
 use crate::engine::Said;
+use crate::line::{Answer, Command};
 use crate::port::{Header, Lent, header, table};
 use crate::state::{Pair, State};
 
@@ -56,9 +56,6 @@ impl Raw {
         s.locals[..self.locals.len()].copy_from_slice(&self.locals);
         s.bitmap[..self.bitmap.len()].copy_from_slice(&self.bitmap);
     }
-    pub fn has_words_of(&self, s: &State) -> bool {
-        self.trees == s.tree_words() && self.locals == s.local_words() && self.bitmap == s.bitmap_words()
-    }
 
     pub fn bits(&self, part: Part) -> usize {
         match part {
@@ -82,7 +79,8 @@ impl Raw {
     }
 }
 
-const GUARDS: usize = 16;
+/// Guard words on either side.
+pub const GUARDS: usize = 16;
 
 /// Words between guard words, which no call may write.
 pub struct Guarded<T> {
