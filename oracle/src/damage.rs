@@ -6,7 +6,7 @@ use crate::line::{Answer, Command, lines, parse, perform};
 use crate::model::Model;
 use crate::port::Header;
 use crate::raw::Raw;
-use crate::state::{State, WIDE_TREES};
+use crate::state::{ROOM_LOCALS, State, WIDE_TREES};
 
 /// Sound states of 1 to 3 trees, in line form, each with reservations, frames held and, but for the second, a last tree
 /// that is not whole.
@@ -157,7 +157,7 @@ fn any_width(r: &mut Random) -> u64 {
 fn make_exact(r: &mut Random, raw: &mut Raw) {
     let n = raw.header.frames.div_ceil(2048) as usize;
     let locals: usize = raw.header.places.iter().map(|p| p.saturating_sub(1) as usize).sum();
-    if n <= 8 && locals <= 256 {
+    if n <= 8 && locals <= ROOM_LOCALS {
         raw.trees.resize(n, r.next() as u32);
         raw.locals.resize(locals, 0);
         raw.bitmap.resize(32 * n, r.pick(&[0, u64::MAX]));
@@ -210,10 +210,11 @@ fn other_length(r: &mut Random, length: usize) -> usize {
 
 pub fn random_lengths(r: &mut Random, raw: &mut Raw) {
     for _ in 0..1 + r.below(2) {
-        let fill = r.pick(&[0, r.0, u64::MAX]);
+        let any = r.next();
+        let fill = r.pick(&[0, any, u64::MAX]);
         match r.below(3) {
             0 => raw.trees.resize(other_length(r, raw.trees.len()).min(WIDE_TREES), fill as u32),
-            1 => raw.locals.resize(other_length(r, raw.locals.len()).min(256), fill),
+            1 => raw.locals.resize(other_length(r, raw.locals.len()).min(ROOM_LOCALS + 1), fill),
             _ => raw.bitmap.resize(other_length(r, raw.bitmap.len()).min(32 * WIDE_TREES), fill),
         }
     }

@@ -74,6 +74,7 @@ impl State {
             room: trees,
             trees: Words::new(trees),
             bitmap: Words::new(32 * trees),
+            // One more, so that a length above the most can be lent.
             locals: Words::new(ROOM_LOCALS + 1),
             frames: 0,
             default: 0,
