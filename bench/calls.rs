@@ -13,16 +13,23 @@ pub fn header(n: usize) -> Header {
     Header { frames: 2048 * n, default: 1, places: [place, place, 0, 0, 0, 0, 0, 0] }
 }
 
-/// The words after these calls on a start, all free or all held; each call has to be Done. What they answered goes too.
-pub fn after(h: Header, table: Table, free: bool, calls: &[Call]) -> (Words, Vec<usize>) {
+/// The words of a start, all free or all held.
+pub fn started(h: Header, table: Table, free: bool) -> Words {
     let mut p = Port::new(h, table);
     assert_eq!(p.start(free), 0);
-    let mut frames = vec![];
-    for &c in calls {
+    p.words()
+}
+
+/// The words after these calls, each of which has to be Done, and the frames that they answered.
+pub fn after(h: Header, table: Table, words: &Words, calls: &[Call]) -> (Words, Vec<usize>) {
+    let mut p = Port::new(h, table);
+    p.set(words);
+    let mut done = |&c: &Call| {
         let a = p.call(c);
         assert_eq!(a.number, 0, "{c:?}");
-        frames.push(a.frame);
-    }
+        a.frame
+    };
+    let frames = calls.iter().map(&mut done).collect();
     (p.words(), frames)
 }
 
@@ -32,14 +39,14 @@ pub fn reserved(n: usize) -> Words {
     let locals = h.places[0] as usize - 1;
     let ask = |class, l| Call::Get(None, Ask { order: 0, class, local: Some(l) });
     let asks: Vec<Call> = (0..2).flat_map(|c| (0..locals).map(move |l| ask(c, l))).collect();
+    let mut words = started(h, table(), true);
     if n > 2 {
-        let words = after(h, table(), true, &asks).0;
+        words = after(h, table(), &words, &asks).0;
         assert!(words.locals.iter().all(|w| w >> 63 == 1));
-        return words;
+    } else {
+        words.trees[0] = 1 << 28;
+        words.locals[0] = 1 << 63 | 2048 << 44;
     }
-    let mut words = after(h, table(), true, &[]).0;
-    words.trees[0] = 1 << 28;
-    words.locals[0] = 1 << 63 | 2048 << 44;
     words
 }
 
@@ -59,19 +66,18 @@ fn whole_state(to: &mut Report, n: usize) {
     }
 }
 
-/// A batch of gets, and the puts that give the same frames back, from the words that such a round leaves.
+/// A batch of gets, and the puts that give the same frames back, on the words that such a round leaves.
 fn gets_and_puts(to: &mut Report, n: usize, named: bool, q: Ask) {
     let h = header(n);
     let batch = (h.frames >> q.order).min(16);
     let gets: Vec<Call> = (0..batch).map(|i| Call::Get(named.then_some(i << q.order), q)).collect();
-    let puts = |frames: &[usize]| -> Vec<Call> { frames[frames.len() - batch..].iter().map(|&f| Call::Put(f, q)).collect() };
-    let (_, first) = after(h, table(), true, &gets);
-    let round = [gets.clone(), puts(&first)].concat();
-    let (before, _) = after(h, table(), true, &round);
-    let (between, got) = after(h, table(), true, &[round, gets.clone()].concat());
+    let puts = |frames: &[usize]| -> Vec<Call> { frames.iter().map(|&f| Call::Put(f, q)).collect() };
+    let (words, frames) = after(h, table(), &started(h, table(), true), &gets);
+    let (free, _) = after(h, table(), &words, &puts(&frames));
+    let (held, frames) = after(h, table(), &free, &gets);
     let name = format!("order {}, {}, {}", q.order, if named { "named" } else { "unnamed" }, if q.local.is_some() { "local" } else { "no local" });
-    to.add(Kind::Call, &format!("get, {name}"), n, case(h, table(), &before, &gets, 0));
-    to.add(Kind::Call, &format!("put, {name}"), n, case(h, table(), &between, &puts(&got), 0));
+    to.add(Kind::Call, &format!("get, {name}"), n, case(h, table(), &free, &gets, 0));
+    to.add(Kind::Call, &format!("put, {name}"), n, case(h, table(), &held, &puts(&frames), 0));
 }
 
 pub fn run(to: &mut Report) {

@@ -170,10 +170,12 @@ impl Side for Rust {
     /// Acceptance test and lengths, then plain fills for any F.
     fn start(&mut self, free: bool) -> usize {
         let h = black_box(self.h);
+        if !plain::accepts(h, &self.table) {
+            return 10;
+        }
         let (n, frames) = (h.trees(), if free { h.frames } else { 0 });
-        let table = self.table;
         let (trees, locals, bits) = self.all_words_mut();
-        if !plain::accepts(h, &table) || trees.len() != n || locals.len() != 8 * h.locals() || bits.len() != 32 * n {
+        if trees.len() != n || locals.len() != 8 * h.locals() || bits.len() != 32 * n {
             return 10;
         }
         let class = (h.default as u32) << 29;

@@ -66,13 +66,19 @@ pub struct Stack {
 }
 
 impl Stack {
+    /// Bytes that f takes of the stack: it begins at a multiple of 16.
+    fn depth(&mut self, f: extern "C" fn(&mut Run), run: &mut Run) -> usize {
+        self.words.fill(PAINT);
+        let end = self.words.as_mut_ptr_range().end as usize / 16 * 16;
+        unsafe { bench_on_stack(end as *mut u64, f, run) };
+        let low = self.words.iter().position(|&w| w != PAINT).expect("a call writes its return address");
+        assert!(low > 64, "the stack of the bench is too small");
+        end - &raw const self.words[low] as usize
+    }
+
     fn call(&mut self, run: &mut Run, call: Call) -> Reply {
         run.call = call;
-        self.words.fill(PAINT);
-        unsafe { bench_on_stack(self.words.as_mut_ptr_range().end.cast::<[u64; 2]>().wrapping_sub(1).cast(), perform, run) };
-        let low = self.words.iter().position(|&w| w != PAINT).unwrap_or(WORDS);
-        assert!(low > 64, "the stack of the bench is too small");
-        let bytes = 8 * (WORDS - 2 - low);
+        let bytes = self.depth(perform, run);
         let d = &mut self.deepest[kind(call)];
         d.calls += 1;
         if bytes > d.bytes {
@@ -148,8 +154,17 @@ impl Random {
     }
 }
 
+/// A caller of known depth, to try the measure.
+extern "C" fn known(run: &mut Run) {
+    let mut room = [0u8; 3000];
+    std::hint::black_box(&mut room);
+    run.reply = Reply::of(room[0] as usize);
+}
+
 pub fn run() -> Vec<Deepest> {
     let mut s = Stack { words: vec![0; WORDS], deepest: vec![Deepest::default(); KINDS.len()] };
+    let mut run = Run { port: Port::new(header(1), table()), call: Call::Drain, reply: Reply::default() };
+    assert!((3000..3200).contains(&s.depth(known, &mut run)), "the measure of the stack is wrong");
     for n in TREES {
         s.all(header(n), table(), &reserved(n));
         let (h, words) = one_frame(n);

@@ -1,6 +1,6 @@
 //! The worst cases: memory full but for one frame, and 256 locals.
 
-use crate::calls::{after, header};
+use crate::calls::{after, header, started};
 use crate::measure::case;
 use crate::report::{Kind, Report};
 use crate::side::{Ask, Call, Header, Words, table, table_of_eight};
@@ -9,7 +9,7 @@ use crate::side::{Ask, Call, Header, Words, table, table_of_eight};
 pub fn one_frame(n: usize) -> (Header, Words) {
     let h = header(n);
     let frame = 2048 * (n / 2) + 2047;
-    let words = after(h, table(), false, &[Call::Put(frame, Ask { order: 0, class: 1, local: None })]).0;
+    let words = after(h, table(), &started(h, table(), false), &[Call::Put(frame, Ask { order: 0, class: 1, local: None })]).0;
     (h, words)
 }
 
@@ -31,7 +31,7 @@ fn full(to: &mut Report, n: usize) {
 /// `free` is what each tree and each local has.
 pub fn many_locals(n: usize, free: usize) -> (Header, Words) {
     let h = Header { frames: 2048 * n, default: 7, places: [33; 8] };
-    let mut words = after(h, table_of_eight(), free > 0, &[]).0;
+    let mut words = started(h, table_of_eight(), free > 0);
     let present = n.min(256);
     for i in 0..present {
         // Every class has holders: the local i % 8 * 32 + i / 8 of all.
@@ -44,34 +44,24 @@ pub fn many_locals(n: usize, free: usize) -> (Header, Words) {
 
 fn locals(to: &mut Report, n: usize) {
     let (h, words) = many_locals(n, 2048);
-    let ask = |order, class, local| Ask { order, class, local };
+    let ask = |class, local| Ask { order: 0, class, local };
     // Tree 0 is held by the first local of class 0: a named get of class 1 steals from it.
-    let get = |frame, q| Call::Get(frame, q);
-    let held = after_gets(h, &words, &[get(None, ask(0, 0, Some(0)))]);
+    let (own, any, other) = (Call::Get(None, ask(0, Some(0))), Call::Get(None, ask(0, None)), Call::Get(Some(0), ask(1, Some(31))));
+    let (held, frames) = after(h, table_of_eight(), &words, &[own]);
     let (_, none_free) = many_locals(n, 0);
     for (name, words, call, want) in [
         ("state test", &words, Call::Stands, 0),
         ("statistics", &words, Call::Figures, 0),
         ("drain", &words, Call::Drain, 0),
-        ("get, order 0, unnamed, local", &words, get(None, ask(0, 0, Some(0))), 0),
-        ("get, order 0, unnamed, no local", &words, get(None, ask(0, 0, None)), 0),
-        ("get, order 0, named, of another class's local", &words, get(Some(0), ask(0, 1, Some(31))), 0),
-        ("put, order 0, local", &held, Call::Put(0, ask(0, 0, Some(0))), 0),
-        ("get, order 0, unnamed, local, ends in Memory", &none_free, get(None, ask(0, 0, Some(0))), 7),
-        ("get, order 0, unnamed, no local, ends in Memory", &none_free, get(None, ask(0, 0, None)), 7),
+        ("get, order 0, unnamed, local", &words, own, 0),
+        ("get, order 0, unnamed, no local", &words, any, 0),
+        ("get, order 0, named, of another class's local", &words, other, 0),
+        ("put, order 0, local", &held, Call::Put(frames[0], ask(0, Some(0))), 0),
+        ("get, order 0, unnamed, local, ends in Memory", &none_free, own, 7),
+        ("get, order 0, unnamed, no local, ends in Memory", &none_free, any, 7),
     ] {
         to.add(Kind::Worst, &format!("256 locals: {name}"), n, case(h, table_of_eight(), words, &[call], want));
     }
-}
-
-fn after_gets(h: Header, words: &Words, calls: &[Call]) -> Words {
-    use crate::side::Side;
-    let mut p = crate::port::Port::new(h, table_of_eight());
-    p.set(words);
-    for &c in calls {
-        assert_eq!(p.call(c).number, 0);
-    }
-    p.words()
 }
 
 pub fn run(to: &mut Report) {
