@@ -31,15 +31,15 @@ impl Panel {
         self.left + WIDTH * (n as f64).log2() / 10.0
     }
     fn y(&self, v: f64) -> f64 {
-        let at = (v.max(self.low) / self.low).ln() / (self.high / self.low).ln();
+        let at = (v.clamp(self.low, self.high) / self.low).ln() / (self.high / self.low).ln();
         TOP + HEIGHT * (1.0 - at)
     }
     fn axes(&self) -> String {
         let (right, bottom) = (self.left + WIDTH, TOP + HEIGHT);
         let mut s = format!("<text class=\"title\" x=\"{}\" y=\"24\">{}</text>\n", self.left, self.title);
         for &v in self.ticks.iter().filter(|&&v| v >= self.low && v <= self.high) {
-            let y = self.y(v);
-            s += &format!("<path class=\"grid\" d=\"M{} {y:.1}H{right}\"/><text class=\"end\" x=\"{}\" y=\"{:.1}\">{v}</text>\n", self.left, self.left - 6.0, y + 4.0);
+            let (y, class) = (self.y(v), if v == 1.2 { "goal" } else { "grid" });
+            s += &format!("<path class=\"{class}\" d=\"M{} {y:.1}H{right}\"/><text class=\"end\" x=\"{}\" y=\"{:.1}\">{v}</text>\n", self.left, self.left - 6.0, y + 4.0);
         }
         for n in TREES {
             let x = self.x(n);
@@ -84,24 +84,24 @@ fn ratios(r: &Report) -> Panel {
 }
 
 fn times(r: &Report) -> Panel {
-    let kinds = [("get, order 0, unnamed, no local", "get"), ("statistics", "statistics"), ("start, all free", "start")];
+    let kinds = [
+        ("get, order 0, unnamed, no local", 0, "get, port", "get, Rust"),
+        ("statistics", 4, "statistics, port", "statistics, Rust"),
+        ("start, all free", 6, "start, port", "start, Rust"),
+    ];
     let mut lines = vec![];
-    for (i, (row, _)) in kinds.into_iter().enumerate() {
-        let colour = [0, 4, 6][i];
-        let names = [["get, port", "get, Rust"], ["statistics, port", "statistics, Rust"], ["start, port", "start, Rust"]][i];
-        let of = |value: fn(Times) -> f64| -> Vec<(usize, f64)> {
-            let row = r.rows.iter().find(|x| x.kind == Kind::Call && x.name == row).expect("a row of the plot");
-            row.times.iter().map(|&(n, t)| (n, value(t) * 1e6)).collect()
-        };
-        lines.push(Line { name: names[0], dashed: false, colour, points: of(|t| t.port) });
-        lines.push(Line { name: names[1], dashed: true, colour, points: of(|t| t.rust) });
+    for (name, colour, port, rust) in kinds {
+        let row = r.rows.iter().find(|x| x.kind == Kind::Call && x.name == name).expect("a row of the plot");
+        let of = |value: fn(Times) -> f64| row.times.iter().map(|&(n, t)| (n, value(t) * 1e6)).collect();
+        lines.push(Line { name: port, dashed: false, colour, points: of(|t| t.port) });
+        lines.push(Line { name: rust, dashed: true, colour, points: of(|t| t.rust) });
     }
     Panel { title: "microseconds of one call", left: 480.0, low: 0.03, high: 100.0, ticks: &[0.03, 0.1, 0.3, 1.0, 3.0, 10.0, 30.0, 100.0], lines }
 }
 
 pub fn svg(r: &Report) -> String {
     let style = "text { font: 12px sans-serif; fill: #222 } .title { font-weight: bold } .end { text-anchor: end } .middle { text-anchor: middle } \
-        .ground { fill: #fff } .grid { stroke: #ccc; stroke-width: 0.7 } \
+        .ground { fill: #fff } .grid { stroke: #ccc; stroke-width: 0.7 } .goal { stroke: #888; stroke-width: 1.5 } \
         @media (prefers-color-scheme: dark) { text { fill: #ddd } .ground { fill: #161b22 } .grid { stroke: #444 } }";
     format!(
         "<svg xmlns=\"http://www.w3.org/2000/svg\" viewBox=\"0 0 880 430\" role=\"img\" aria-label=\"Ratios and times by number of trees\">\n<style>{style}</style>\n<rect class=\"ground\" width=\"880\" height=\"430\"/>\n{}{}</svg>\n",
