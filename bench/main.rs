@@ -16,13 +16,18 @@ use std::fs::{read_to_string, write};
 
 use report::{Kind, Report};
 
+/// All cases are timed so often, far apart, that a disturbance of some seconds does not count.
+const PASSES: usize = 3;
+
 fn main() {
     let args: Vec<String> = std::env::args().skip(1).collect();
     let [facts, template, page, picture] = args.as_slice() else { panic!("bench FACTS TEMPLATE OUT.md OUT.svg") };
     let mut r = Report::default();
-    parts::run(&mut r);
-    calls::run(&mut r);
-    worst::run(&mut r);
+    for _ in 0..PASSES {
+        parts::run(&mut r);
+        calls::run(&mut r);
+        worst::run(&mut r);
+    }
     let stack = stack::run();
     let mut text = read_to_string(template).expect("the template");
     for line in read_to_string(facts).expect("the facts").lines() {
@@ -31,10 +36,8 @@ fn main() {
     }
     for (name, made) in [
         ("{goals}", r.goals(&stack)),
-        ("{ratios}", r.ratios(Kind::Call)),
-        ("{times}", r.times(Kind::Call)),
-        ("{worst-ratios}", r.ratios(Kind::Worst)),
-        ("{worst-times}", r.times(Kind::Worst)),
+        ("{calls}", r.table(Kind::Call)),
+        ("{worst}", r.table(Kind::Worst)),
         ("{parts}", r.parts()),
         ("{stack}", r.stack(&stack)),
     ] {

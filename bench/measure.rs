@@ -7,7 +7,7 @@ use crate::port::Port;
 use crate::rust::Rust;
 use crate::side::{Call, Header, Side, Table, Words};
 
-const SAMPLES: usize = 80;
+const SAMPLES: usize = 40;
 /// Seconds of one sample with all that belongs to it, about.
 const SAMPLE: f64 = 0.0015;
 

@@ -56,12 +56,23 @@ fn micros(seconds: f64) -> String {
     format!("{us:.digits$}")
 }
 
+/// A number with so many digits after the point, in bold where it is above the goal.
+fn bold(value: f64, digits: usize, goal: f64) -> String {
+    if value > goal { format!("**{value:.digits$}**") } else { format!("{value:.digits$}") }
+}
+
 impl Report {
+    /// Takes a case's times in; of several the best of each side stays.
     pub fn add(&mut self, kind: Kind, name: &str, trees: usize, times: Times) {
         eprintln!("{name}, {trees} trees: {} {} {:.2}", micros(times.port), micros(times.rust), times.ratio());
-        match self.rows.iter_mut().find(|r| r.kind == kind && r.name == name) {
-            Some(r) => r.times.push((trees, times)),
-            None => self.rows.push(Row { kind, name: name.into(), times: vec![(trees, times)] }),
+        let at = self.rows.iter().position(|r| r.kind == kind && r.name == name).unwrap_or(self.rows.len());
+        if at == self.rows.len() {
+            self.rows.push(Row { kind, name: name.into(), times: vec![] });
+        }
+        let row = &mut self.rows[at].times;
+        match row.iter_mut().find(|t| t.0 == trees) {
+            Some((_, t)) => *t = Times { port: t.port.min(times.port), rust: t.rust.min(times.rust) },
+            None => row.push((trees, times)),
         }
     }
 
@@ -69,31 +80,18 @@ impl Report {
         self.rows.iter().filter(move |r| r.kind == kind)
     }
 
-    /// A line a row and a column a number of trees, each cell by `cell`; then more columns by `more`.
-    fn table(&self, kind: Kind, heads: &str, cell: impl Fn(Times) -> String, more: impl Fn(&Row) -> String) -> String {
+    /// A line a row: by number of trees the ratio port / Rust and the microseconds of the port, then the growth.
+    /// What is above its goal stands in bold.
+    pub fn table(&self, kind: Kind) -> String {
         let trees: Vec<usize> = TREES.into_iter().filter(|&n| self.of(kind).any(|r| r.at(n).is_some())).collect();
-        let mut s = String::from("| trees |");
-        trees.iter().for_each(|&n| s += &format!(" {} |", thousands(n)));
-        s += &format!("{heads}\n|---|{}\n", "---:|".repeat(trees.len() + heads.matches('|').count()));
+        let heads: Vec<String> = trees.iter().map(|&n| thousands(n)).collect();
+        let mut s = format!("| trees | {} | 1,024 / 64 |\n|---|{}\n", heads.join(" | "), "---:|".repeat(trees.len() + 1));
+        let cell = |t: Times| format!("{} · {}", bold(t.ratio(), 2, goal(kind)), micros(t.port));
         for r in self.of(kind) {
-            s += &format!("| {} |", r.name);
-            trees.iter().for_each(|&n| s += &format!(" {} |", r.at(n).map_or(String::new(), &cell)));
-            s += &more(r);
-            s += "\n";
+            let cells: Vec<String> = trees.iter().map(|&n| r.at(n).map_or(String::new(), cell)).collect();
+            s += &format!("| {} | {} | {} |\n", r.name, cells.join(" | "), r.growth().map_or(String::new(), |g| bold(g, 1, GROWTH)));
         }
         s
-    }
-
-    /// Ratios port / Rust; those above the goal stand in bold.
-    pub fn ratios(&self, kind: Kind) -> String {
-        let cell = |t: Times| if t.ratio() > goal(kind) { format!("**{:.2}**", t.ratio()) } else { format!("{:.2}", t.ratio()) };
-        self.table(kind, "", cell, |_| String::new())
-    }
-
-    /// Microseconds of the port, and its growth from 64 to 1,024 trees.
-    pub fn times(&self, kind: Kind) -> String {
-        let growth = |r: &Row| r.growth().map_or(" |".into(), |g| if g > GROWTH { format!(" **{g:.1}** |") } else { format!(" {g:.1} |") });
-        self.table(kind, " 1,024 / 64 |", |t| micros(t.port), growth)
     }
 
     pub fn parts(&self) -> String {
