@@ -1,4 +1,4 @@
-// The standing rules as a test of the whole state: one pass over the bitmap, two over the entries, two over the locals.
+// The standing rules as a test of the whole state: one pass over the bitmap, two over the entries, three over the locals.
 use rules::Header;
 use rules::Local;
 ghost use mathlib.Core.Path.{_≡_};
