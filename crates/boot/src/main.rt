@@ -13,6 +13,9 @@ mod say;
 
 ghost use mathlib.Core.Path.{_≡_};
 ghost use mathlib.Core.Bool.{true};
+ghost use Rattle.rules.specs.Words.{config};
+ghost use Rattle.ways.specs.Calls.{outcomeOf};
+ghost use Rattle.boot.specs.Board.{Ready};
 ghost use Rattle.boot.specs.Patterns.{framesOf};
 ghost use Prim.Native.Nat.{_+_, _*_, _/_, _^_, _<_, _≤_};
 ghost use lib.ListN.{length};
@@ -185,10 +188,26 @@ fn serve(h: Header, table: &[u32; 64], trees: &mut [u32], locals: &mut [u64], bi
     finish(h, table, trees, locals, bits, shown);
 }
 
-// A boot on lent words: the store starts with all frames free. A start that is refused ends it.
-fn boot(h: Header, table: &[u32; 64], trees: &mut [u32], locals: &mut [u64], bits: &mut [u64]) {
+// The store starts with all frames free. On a header, a table and lengths that are accepted it is Done.
+fn start(
+    h: Header,
+    table: &[u32; 64],
+    trees: &mut [u32],
+    locals: &mut [u64],
+    bits: &mut [u64],
+) -> Outcome
+    requires { ⌜ Ready (config h (now table)) (now trees) (now locals) (now bits) ⌝ }
+    ensures { λ r. ⌜ outcomeOf r ≡ 0 ⌝ }
+{
+    llfree::start(h, table, trees, locals, bits, true)
+}
+
+// A boot on lent words. A start that is refused would end it; that the starts of both boards are Done is proved.
+fn boot(h: Header, table: &[u32; 64], trees: &mut [u32], locals: &mut [u64], bits: &mut [u64])
+    requires { ⌜ Ready (config h (now table)) (now trees) (now locals) (now bits) ⌝ }
+{
     say::board(h);
-    let started = llfree::start(h, table, trees, locals, bits, true);
+    let started = start(h, table, trees, locals, bits);
     say::outcome(b"start", started);
     match started {
         Outcome::Done => serve(h, table, trees, locals, bits),

@@ -2,8 +2,10 @@
 use rules::Given;
 use rules::Request;
 ghost use mathlib.Core.Path.{_≡_};
-ghost use Prim.Native.Nat.{_+_, _*_, _/_, _%_, _^_, _<_, _≤_};
+ghost use Prim.Native.Nat.{ℕ, _+_, _*_, _/_, _%_, _^_, _<_, _≤_};
 ghost use lib.Dec.{eqb};
+ghost use Rattle.ways.specs.Calls.{refusal};
+ghost use Rattle.boot.specs.Board.{board};
 ghost use Rattle.boot.specs.Patterns.{framesOf};
 
 // The picture and the two overlays that lie over it.
@@ -41,7 +43,9 @@ pub fn has_block(n: usize, order: usize) -> bool
 }
 
 // The class: 1 for what lives long, 0 for the overlays.
-fn class(p: Pattern) -> usize {
+fn class(p: Pattern) -> usize
+    ensures { λ r. ⌜ r < 2 ⌝ }
+{
     match p {
         Pattern::Raster => 1,
         Pattern::FirstOverlay => 0,
@@ -50,7 +54,9 @@ fn class(p: Pattern) -> usize {
 }
 
 // The local: the overlays have one each, so that they fill different trees.
-fn local(p: Pattern) -> usize {
+fn local(p: Pattern) -> usize
+    ensures { λ r. ⌜ r < 2 ⌝ }
+{
     match p {
         Pattern::Raster => 0,
         Pattern::FirstOverlay => 0,
@@ -58,8 +64,11 @@ fn local(p: Pattern) -> usize {
     }
 }
 
-// What a get or a put of a pattern's block asks for.
-pub fn request(p: Pattern, order: usize) -> Request {
+// What a get or a put of a pattern's block asks for. Such a get is not refused for its arguments, with Order, Bounds, Misaligned, Class or Local.
+pub fn request(p: Pattern, order: usize) -> Request
+    requires { ⌜ order < 12 ⌝ }
+    ensures { λ r. ⌜ ((frames : ℕ) → 2048 ≤ frames → refusal (board frames) r 0 ≡ 0) ⌝ }
+{
     Request {
         order: order,
         class: class(p),

@@ -4,7 +4,6 @@ use native.Mathlib.Omega.{arith}
 use Prim.Native.Nat.{ℕ, _+_, _-_, _*_, _≤_, _<_}
 use mathlib.Core.Path.{_≡_}
 use lib.ListN.{length, getD}
-use borrow.Author.Needs.{needs}
 use Rattle.boot.proofs.finish.Statement.{statement}
 use Rattle.boot.proofs.finish.Tie as tie
 use Rattle.boot.proofs.finish.Reads as reads

@@ -1,0 +1,25 @@
+-- `boot::patterns::request` meets its contract. Assumes nothing.
+use borrow.Author.Needs.{needs}
+use native.Mathlib.Omega.{arith}
+use Prim.Native.Nat.{ℕ, _+_, _-_, _*_, _≤_, _<_}
+use mathlib.Core.Path.{_≡_}
+use lib.ListN.{length, getD}
+use Rattle.boot.specs.Board.{fits}
+use Rattle.boot.proofs.patterns.request.Statement.{statement}
+use Rattle.boot.proofs.patterns.request.Tie as tie
+use Rattle.boot.proofs.patterns.request.Reads as reads
+use Rattle.boot.proofs.patterns.request.Lts as lts
+use Rattle.boot.proofs.patterns.class.Reads as class-reads
+use Rattle.boot.proofs.patterns.local.Reads as local-reads
+
+class-requires : tie.Need-class-requires
+class-requires c κs = search needs
+
+local-requires : tie.Need-local-requires
+local-requires c κs = search needs
+
+returns : tie.Need-returns
+returns c = λ f hf. fits f _ _ _ hf (omega arith) (c .before .class .ensures) (c .local .ensures)
+
+pub request-spec : {M : Type 1} → statement M
+request-spec = tie.close (tie.spec class-requires local-requires returns)

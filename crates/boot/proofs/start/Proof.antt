@@ -1,0 +1,32 @@
+-- `boot::start` meets its contract. Assumes nothing.
+use borrow.Author.Needs.{needs}
+use native.Mathlib.Omega.{arith}
+use Prim.Native.Nat.{ℕ, _+_, _-_, _*_, _≤_, _<_}
+use mathlib.Core.Path.{_≡_}
+use lib.ListN.{length, getD}
+use mathlib.Core.Path.{ap, _∙_}
+use Rattle.ways.specs.Calls.{Told}
+use Rattle.boot.specs.Board.{starts}
+use Rattle.boot.proofs.start.Statement.{statement}
+use Rattle.boot.proofs.start.Tie as tie
+use Rattle.boot.proofs.start.Reads as reads
+use Rattle.boot.proofs.start.Lts as lts
+use Rattle.llfree.proofs.start.Reads as start-reads
+
+start-requires : tie.Need-start-requires
+start-requires c κs = search needs
+
+same-length : tie.Need-same-length
+same-length c = search needs
+
+same-length-2 : tie.Need-same-length-2
+same-length-2 c = search needs
+
+same-length-3 : tie.Need-same-length-3
+same-length-3 c = search needs
+
+returns : tie.Need-returns
+returns c = ap (λ (x : Told). x .number) (c .before .before .before .before .before .before .start .ensures) ∙ starts _ _ _ _ (c .before .before .before .before .before .before .before .before .before .before .before .before .before .pre)
+
+pub start-spec : {M : Type 1} → statement M
+start-spec = tie.close (tie.spec start-requires same-length same-length-2 same-length-3 returns)
