@@ -1,22 +1,19 @@
 // The boot loader: the firmware's first caller, and the example of how the library is called. It starts the store, takes the frames of the
-// boot patterns, gives them back, drains, and reports each answer. No refusal is passed over: say.rt has what the loader does on each.
+// boot patterns, gives them back, drains, and reports each answer. No refusal is passed over: the crate `says` has what the loader does on each.
 use patterns::Pattern;
 use rules::Header;
 use rules::Name;
 use ways::Granted;
 use ways::Outcome;
 
-mod board;
-mod patterns;
 mod refusals;
-mod say;
 
 ghost use mathlib.Core.Path.{_≡_};
 ghost use mathlib.Core.Bool.{true};
 ghost use Rattle.rules.specs.Words.{config};
 ghost use Rattle.ways.specs.Calls.{outcomeOf};
-ghost use Rattle.boot.specs.Board.{Ready};
-ghost use Rattle.boot.specs.Patterns.{framesOf};
+ghost use Rattle.patterns.specs.Board.{Ready};
+ghost use Rattle.patterns.specs.Patterns.{framesOf};
 ghost use Prim.Native.Nat.{_+_, _*_, _/_, _^_, _<_, _≤_};
 ghost use lib.ListN.{length};
 
@@ -50,7 +47,7 @@ fn take(
         }
         let q = patterns::request(p, order);
         let reply = llfree::get(h, table, trees, locals, bits, Name::Any, q);
-        say::got(p, order, reply);
+        says::got(p, order, reply);
         let granted = reply.granted;
         let Granted::Done { frame, class: _ } = granted else {
             return Held {
@@ -89,7 +86,7 @@ fn give(
         }
         let q = patterns::request(p, order);
         let outcome = llfree::put(h, table, trees, locals, bits, first[order], q);
-        say::gave(p, order, outcome);
+        says::gave(p, order, outcome);
     }
 }
 
@@ -104,11 +101,11 @@ fn show(
 ) -> Held {
     let held = take(h, table, trees, locals, bits, p);
     if held.whole {
-        say::shown(p);
+        says::shown(p);
         return held;
     }
     give(h, table, trees, locals, bits, p, held);
-    say::built_in(p);
+    says::built_in(p);
     Held {
         whole: false,
         frames: 0,
@@ -177,14 +174,14 @@ fn finish(
 ) {
     give_all(h, table, trees, locals, bits, shown);
     let drained = llfree::drain(h, table, trees, locals, bits);
-    say::outcome(b"drain", drained);
-    say::figures(h, statistics::tell(h, table, trees, locals, bits, 8));
+    says::outcome(b"drain", drained);
+    says::figures(h, statistics::tell(h, table, trees, locals, bits, 8));
 }
 
 // The calls after an accepted start.
 fn serve(h: Header, table: &[u32; 64], trees: &mut [u32], locals: &mut [u64], bits: &mut [u64]) {
     let shown = show_all(h, table, trees, locals, bits);
-    say::figures(h, statistics::tell(h, table, trees, locals, bits, 8));
+    says::figures(h, statistics::tell(h, table, trees, locals, bits, 8));
     finish(h, table, trees, locals, bits, shown);
 }
 
@@ -206,9 +203,9 @@ fn start(
 fn boot(h: Header, table: &[u32; 64], trees: &mut [u32], locals: &mut [u64], bits: &mut [u64])
     requires { ⌜ Ready (config h (now table)) (now trees) (now locals) (now bits) ⌝ }
 {
-    say::board(h);
+    says::board(h);
     let started = start(h, table, trees, locals, bits);
-    say::outcome(b"start", started);
+    says::outcome(b"start", started);
     match started {
         Outcome::Done => serve(h, table, trees, locals, bits),
         Outcome::Refused(_) => (),
@@ -217,31 +214,31 @@ fn boot(h: Header, table: &[u32; 64], trees: &mut [u32], locals: &mut [u64], bit
 
 // The board.
 fn boot_board() {
-    let table = board::table();
+    let table = patterns::table();
     let mut trees = [0u32; 32];
     let mut locals = [0u64; 4];
     let mut bits = [0u64; 1024];
-    let h = board::header(board::FRAMES);
+    let h = patterns::header(patterns::FRAMES);
     boot(h, &table, &mut trees, &mut locals, &mut bits);
 }
 
 // A board too small for the raster.
 fn boot_small() {
-    let table = board::table();
+    let table = patterns::table();
     let mut trees = [0u32; 1];
     let mut locals = [0u64; 4];
     let mut bits = [0u64; 32];
-    let h = board::header(board::SMALL);
+    let h = patterns::header(patterns::SMALL);
     boot(h, &table, &mut trees, &mut locals, &mut bits);
 }
 
 // The refusals, on a store of the small board.
 fn show_refusals() {
-    let table = board::table();
+    let table = patterns::table();
     let mut trees = [0u32; 1];
     let mut locals = [0u64; 4];
     let mut bits = [0u64; 32];
-    let h = board::header(board::SMALL);
+    let h = patterns::header(patterns::SMALL);
     refusals::show(h, &table, &mut trees, &mut locals, &mut bits);
 }
 

@@ -126,23 +126,6 @@ fn seven_rows<'a>(
     numbers::number(outcome)
 }
 
-// What the call to be refused with n is.
-fn say(n: usize, answered: usize) {
-    match n {
-        1 => crate::say::answered(b"drain on a tree word too few", answered),
-        2 => crate::say::answered(b"get of order 12", answered),
-        3 => crate::say::answered(b"get of the frame past the last", answered),
-        4 => crate::say::answered(b"get of frame 1 at order 1", answered),
-        5 => crate::say::answered(b"get for class 2", answered),
-        6 => crate::say::answered(b"get with local 2", answered),
-        7 => crate::say::answered(b"get of frame 0, which is held", answered),
-        8 => crate::say::answered(b"put of frame 1, which is free", answered),
-        9 => crate::say::answered(b"no call", answered),
-        10 => crate::say::answered(b"start with default 0", answered),
-        _ => crate::say::answered(b"statistics with seven rows", answered),
-    }
-}
-
 // The call to be refused with n, and the number that it answers. No call is refused with 9.
 fn call(
     h: Header,
@@ -164,13 +147,13 @@ fn call(
 
 // Each refusal in turn, on a store of which frame 0 alone is held.
 pub fn show(h: Header, table: &[u32; 64], trees: &mut [u32], locals: &mut [u64], bits: &mut [u64]) {
-    crate::say::heading(b"\nWhat the loader does on each refusal\n");
+    says::heading(b"\nWhat the loader does on each refusal\n");
     let started = llfree::start(h, table, trees, locals, bits, true);
-    crate::say::outcome(b"start", started);
-    crate::say::answered(b"get of frame 0", get(h, table, trees, locals, bits, 7));
+    says::outcome(b"start", started);
+    says::answered(b"get of frame 0", get(h, table, trees, locals, bits, 7));
     let mut n = 1;
     while n < 12 {
-        say(n, call(h, table, trees, locals, bits, n));
+        says::refused(n, call(h, table, trees, locals, bits, n));
         n += 1;
     }
 }

@@ -4,14 +4,9 @@ use native.Mathlib.Omega.{arith}
 use Prim.Native.Nat.{ℕ, _+_, _-_, _*_, _≤_, _<_}
 use mathlib.Core.Path.{_≡_}
 use lib.ListN.{length, getD}
-use Rattle.boot.specs.Board.{ready-from, ready-small}
+use Rattle.patterns.specs.Board.{ready-from, ready-small}
 use Rattle.boot.proofs.boot_small.Statement.{statement}
 use Rattle.boot.proofs.boot_small.Tie as tie
-use Rattle.boot.proofs.boot_small.Reads as reads
-use Rattle.boot.proofs.boot_small.Lts as lts
-use Rattle.boot.proofs.board.header.Reads as header-reads
-use Rattle.boot.proofs.board.table.Reads as table-reads
-use Rattle.boot.proofs.boot.Reads as boot-reads
 
 table-requires : tie.Need-table-requires
 table-requires c κs = search needs

@@ -6,13 +6,6 @@ use mathlib.Core.Path.{_≡_}
 use lib.ListN.{length, getD}
 use Rattle.boot.proofs.finish.Statement.{statement}
 use Rattle.boot.proofs.finish.Tie as tie
-use Rattle.boot.proofs.finish.Reads as reads
-use Rattle.boot.proofs.finish.Lts as lts
-use Rattle.boot.proofs.give_all.Reads as give-all-reads
-use Rattle.boot.proofs.say.figures.Reads as figures-reads
-use Rattle.boot.proofs.say.outcome.Reads as outcome-reads
-use Rattle.llfree.proofs.drain.Reads as drain-reads
-use Rattle.statistics.proofs.tell.Reads as tell-reads
 
 give-all-requires : tie.Need-give-all-requires
 give-all-requires c κs = search needs

@@ -6,12 +6,6 @@ use mathlib.Core.Path.{_≡_}
 use lib.ListN.{length, getD}
 use Rattle.boot.proofs.give.Statement.{statement}
 use Rattle.boot.proofs.give.Tie as tie
-use Rattle.boot.proofs.give.Reads as reads
-use Rattle.boot.proofs.give.Lts as lts
-use Rattle.boot.proofs.patterns.has_block.Reads as has-block-reads
-use Rattle.boot.proofs.patterns.request.Reads as request-reads
-use Rattle.boot.proofs.say.gave.Reads as gave-reads
-use Rattle.llfree.proofs.put.Reads as put-reads
 
 abbrev Inv-loop : tie.InvT-loop
 Inv-loop h table trees₀ locals₀ bits₀ p frames first order₀ trees locals bits order = (order ≤ 12) × ((length trees ≡ length trees₀) × ((length locals ≡ length locals₀) × (length bits ≡ length bits₀)))

@@ -6,12 +6,9 @@ use mathlib.Core.Path.{_≡_}
 use lib.ListN.{length, getD}
 use mathlib.Core.Path.{ap, _∙_}
 use Rattle.ways.specs.Calls.{Told}
-use Rattle.boot.specs.Board.{starts}
+use Rattle.patterns.specs.Board.{starts}
 use Rattle.boot.proofs.start.Statement.{statement}
 use Rattle.boot.proofs.start.Tie as tie
-use Rattle.boot.proofs.start.Reads as reads
-use Rattle.boot.proofs.start.Lts as lts
-use Rattle.llfree.proofs.start.Reads as start-reads
 
 start-requires : tie.Need-start-requires
 start-requires c κs = search needs

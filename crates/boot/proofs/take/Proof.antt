@@ -5,17 +5,9 @@ use Prim.Native.Nat.{ℕ, _+_, _-_, _*_, _≤_, _<_}
 use mathlib.Core.Path.{_≡_, sym, _∙_}
 use borrow.Author.Tests.{not-true, not-false}
 use lib.ListN.{length, getD}
-use Rattle.boot.specs.Patterns.{framesOf, frames-few, above, above-all, above-zero, above-le, above-digit, above-none}
+use Rattle.patterns.specs.Patterns.{framesOf, frames-few, above, above-all, above-zero, above-le, above-digit, above-none}
 use Rattle.boot.proofs.take.Statement.{statement}
 use Rattle.boot.proofs.take.Tie as tie
-use Rattle.boot.proofs.take.Reads as reads
-use Rattle.boot.proofs.take.Lts as lts
-use Rattle.bits.proofs.size.Reads as size-reads
-use Rattle.boot.proofs.patterns.frames.Reads as frames-reads
-use Rattle.boot.proofs.patterns.has_block.Reads as has-block-reads
-use Rattle.boot.proofs.patterns.request.Reads as request-reads
-use Rattle.boot.proofs.say.got.Reads as got-reads
-use Rattle.llfree.proofs.get.Reads as get-reads
 
 abbrev Inv-loop : tie.InvT-loop
 Inv-loop h table trees₀ locals₀ bits₀ p wanted frames₀ first₀ order₀ trees locals bits frames first order = (order ≤ 12) × ((frames ≡ above wanted order) × ((wanted ≡ framesOf p) × ((length trees ≡ length trees₀) × ((length locals ≡ length locals₀) × (length bits ≡ length bits₀)))))

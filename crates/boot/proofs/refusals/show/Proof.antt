@@ -6,15 +6,6 @@ use mathlib.Core.Path.{_≡_}
 use lib.ListN.{length, getD}
 use Rattle.boot.proofs.refusals.show.Statement.{statement}
 use Rattle.boot.proofs.refusals.show.Tie as tie
-use Rattle.boot.proofs.refusals.show.Reads as reads
-use Rattle.boot.proofs.refusals.show.Lts as lts
-use Rattle.boot.proofs.refusals.call.Reads as call-reads
-use Rattle.boot.proofs.refusals.get.Reads as get-reads
-use Rattle.boot.proofs.refusals.say.Reads as say-reads
-use Rattle.boot.proofs.say.answered.Reads as answered-reads
-use Rattle.boot.proofs.say.heading.Reads as heading-reads
-use Rattle.boot.proofs.say.outcome.Reads as outcome-reads
-use Rattle.llfree.proofs.start.Reads as start-reads
 
 abbrev Inv-loop : tie.InvT-loop
 Inv-loop h table trees₀ locals₀ bits₀ n₀ trees locals bits n = (length trees ≡ length trees₀) × ((length locals ≡ length locals₀) × (length bits ≡ length bits₀))
@@ -52,8 +43,8 @@ loop-holds c = search needs
 call-requires : tie.Need-call-requires Inv-loop μ-loop
 call-requires c κs = search needs
 
-say-requires : tie.Need-say-requires Inv-loop μ-loop
-say-requires c κs = search needs
+refused-requires : tie.Need-refused-requires Inv-loop μ-loop
+refused-requires c κs = search needs
 
 add-n : tie.Need-add-n Inv-loop μ-loop
 add-n c = search needs
@@ -92,7 +83,7 @@ show-spec =
     answered-requires
     loop-holds
     call-requires
-    say-requires
+    refused-requires
     add-n
     loop-less
     loop-again

@@ -1,7 +1,7 @@
 // What the loader says: a line for each answer, the figures, and what it does on each refusal.
-use crate::patterns::Pattern;
 use libc::STDERR_FILENO;
 use libc::STDOUT_FILENO;
+use patterns::Pattern;
 use rules::Header;
 use statistics::Report;
 use ways::Granted;
@@ -33,7 +33,7 @@ fn own_error(out: &mut [u8], at: usize, what: &[u8]) -> usize {
 // What the loader does on a refusal from 6 on.
 fn later_action(out: &mut [u8], at: usize, n: usize) -> usize {
     if n == 6 {
-        return own_error(out, at, b"a local that the class has not");
+        return own_error(out, at, b"a local that the class does not have");
     }
     if n == 7 {
         return texts::append(
@@ -89,7 +89,7 @@ fn action(out: &mut [u8], at: usize, n: usize) -> usize {
         return own_error(out, at, b"a frame that is no multiple of its block");
     }
     if n == 5 {
-        return own_error(out, at, b"a class that the board has not");
+        return own_error(out, at, b"a class that the board does not have");
     }
     later_action(out, at, n)
 }
@@ -159,6 +159,23 @@ pub fn answered(call: &[u8], n: usize) {
     let to = texts::append(&mut line, 0, call);
     let to = texts::append(&mut line, to, b": ");
     ended(&mut line, to, n);
+}
+
+// The call that is to be refused with n, and the number that it answered.
+pub fn refused(n: usize, number: usize) {
+    match n {
+        1 => answered(b"drain on a tree word too few", number),
+        2 => answered(b"get of order 12", number),
+        3 => answered(b"get of the frame past the last", number),
+        4 => answered(b"get of frame 1 at order 1", number),
+        5 => answered(b"get for class 2", number),
+        6 => answered(b"get with local 2", number),
+        7 => answered(b"get of frame 0, which is held", number),
+        8 => answered(b"put of frame 1, which is free", number),
+        9 => answered(b"no call", number),
+        10 => answered(b"start with default 0", number),
+        _ => answered(b"statistics with seven rows", number),
+    }
 }
 
 // What is shown of a pattern.

@@ -1,16 +1,12 @@
--- `boot::patterns::request` meets its contract. Assumes nothing.
+-- `patterns::request` meets its contract. Assumes nothing.
 use borrow.Author.Needs.{needs}
 use native.Mathlib.Omega.{arith}
 use Prim.Native.Nat.{ℕ, _+_, _-_, _*_, _≤_, _<_}
 use mathlib.Core.Path.{_≡_}
 use lib.ListN.{length, getD}
-use Rattle.boot.specs.Board.{fits}
-use Rattle.boot.proofs.patterns.request.Statement.{statement}
-use Rattle.boot.proofs.patterns.request.Tie as tie
-use Rattle.boot.proofs.patterns.request.Reads as reads
-use Rattle.boot.proofs.patterns.request.Lts as lts
-use Rattle.boot.proofs.patterns.class.Reads as class-reads
-use Rattle.boot.proofs.patterns.local.Reads as local-reads
+use Rattle.patterns.specs.Board.{fits}
+use Rattle.patterns.proofs.request.Statement.{statement}
+use Rattle.patterns.proofs.request.Tie as tie
 
 class-requires : tie.Need-class-requires
 class-requires c κs = search needs

@@ -8,8 +8,8 @@ use native.Mathlib.Numerals.{add-one}
 use lib.Pow.{shr-shr}
 use lib.Dec.{eqb}
 use borrow.Author.Tests.{eqb-true, eqb-false}
-use Rattle.boot.specs.declared.patterns.Pattern.{Pattern}
-use Rattle.boot.specs.declared.patterns.Pattern.the-variants.{Raster, FirstOverlay, SecondOverlay}
+use Rattle.patterns.specs.declared.Pattern.{Pattern}
+use Rattle.patterns.specs.declared.Pattern.the-variants.{Raster, FirstOverlay, SecondOverlay}
 
 -- the frames of a pattern: 2,048 × 1,080 pixels of 6 bytes are 3,240 frames of 4 KiB, of 1 byte 540
 abbrev pub framesOf : Pattern → ℕ
