@@ -1,12 +1,12 @@
 -- The board's configuration: a start accepts it, and no get of the loader is refused for its arguments. Assumes nothing.
 use mathlib.Core.Path.{_≡_, refl, sym, subst}
-use mathlib.Core.Bool.{Bool, true, false}
+use mathlib.Core.Bool.{true, false}
 use mathlib.Core.List.{List}
-use Prim.Native.Nat.{ℕ, zero, suc, _+_, _*_, _%_, _^_, _≤_, _<_}
+use Prim.Native.Nat.{ℕ, zero, suc, _+_, _^_, _≤_, _<_}
 use native.Mathlib.Omega.{arith}
 use native.Mathlib.Nat.{zero-mod}
 use lib.ListN.{replicate}
-use lib.Dec.{eqb, ltb, leb}
+use lib.Dec.{ltb}
 use lib.Pow.{pow-mono}
 use borrow.Author.Tests.{le-ltb}
 use Rattle.rules.specs.Base.{both, ifte, allBelow, sum}

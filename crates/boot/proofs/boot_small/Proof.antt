@@ -1,9 +1,5 @@
 -- `boot::boot_small` meets its contract. Assumes nothing.
 use borrow.Author.Needs.{needs}
-use native.Mathlib.Omega.{arith}
-use Prim.Native.Nat.{ℕ, _+_, _-_, _*_, _≤_, _<_}
-use mathlib.Core.Path.{_≡_}
-use lib.ListN.{length, getD}
 use Rattle.patterns.specs.Board.{ready-from, ready-small}
 use Rattle.boot.proofs.boot_small.Statement.{statement}
 use Rattle.boot.proofs.boot_small.Tie as tie

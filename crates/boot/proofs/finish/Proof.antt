@@ -1,9 +1,6 @@
 -- `boot::finish` meets its contract. Assumes nothing.
 use borrow.Author.Needs.{needs}
 use native.Mathlib.Omega.{arith}
-use Prim.Native.Nat.{ℕ, _+_, _-_, _*_, _≤_, _<_}
-use mathlib.Core.Path.{_≡_}
-use lib.ListN.{length, getD}
 use Rattle.boot.proofs.finish.Statement.{statement}
 use Rattle.boot.proofs.finish.Tie as tie
 

@@ -1,9 +1,5 @@
 -- `boot::start` meets its contract. Assumes nothing.
 use borrow.Author.Needs.{needs}
-use native.Mathlib.Omega.{arith}
-use Prim.Native.Nat.{ℕ, _+_, _-_, _*_, _≤_, _<_}
-use mathlib.Core.Path.{_≡_}
-use lib.ListN.{length, getD}
 use mathlib.Core.Path.{ap, _∙_}
 use Rattle.ways.specs.Calls.{Told}
 use Rattle.patterns.specs.Board.{starts}

@@ -1,10 +1,10 @@
 -- `boot::take` meets its contract. Assumes nothing.
 use borrow.Author.Needs.{needs}
 use native.Mathlib.Omega.{arith}
-use Prim.Native.Nat.{ℕ, _+_, _-_, _*_, _≤_, _<_}
+use Prim.Native.Nat.{_-_, _≤_, _<_}
 use mathlib.Core.Path.{_≡_, sym, _∙_}
 use borrow.Author.Tests.{not-true, not-false}
-use lib.ListN.{length, getD}
+use lib.ListN.{length}
 use Rattle.patterns.specs.Patterns.{framesOf, frames-few, above, above-all, above-zero, above-le, above-digit, above-none}
 use Rattle.boot.proofs.take.Statement.{statement}
 use Rattle.boot.proofs.take.Tie as tie

@@ -1,9 +1,6 @@
 -- `patterns::request` meets its contract. Assumes nothing.
 use borrow.Author.Needs.{needs}
 use native.Mathlib.Omega.{arith}
-use Prim.Native.Nat.{ℕ, _+_, _-_, _*_, _≤_, _<_}
-use mathlib.Core.Path.{_≡_}
-use lib.ListN.{length, getD}
 use Rattle.patterns.specs.Board.{fits}
 use Rattle.patterns.proofs.request.Statement.{statement}
 use Rattle.patterns.proofs.request.Tie as tie
