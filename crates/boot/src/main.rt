@@ -1,13 +1,11 @@
 // The boot loader: the firmware's first caller, and the example of how the library is called. It starts the store, takes the frames of the
-// boot patterns, gives them back, drains, and reports each answer. No refusal is passed over: the crate `says` has what the loader does on each.
+// boot patterns, gives them back, drains, and reports each answer. No refusal is passed over: the crate `says` has what the loader does
+// on each, the crate `refusals` a call for each.
 use patterns::Pattern;
 use rules::Header;
 use rules::Name;
 use ways::Granted;
 use ways::Outcome;
-
-mod refusals;
-
 ghost use mathlib.Core.Path.{_≡_};
 ghost use mathlib.Core.Bool.{true};
 ghost use Rattle.rules.specs.Words.{config};

@@ -1,10 +1,10 @@
--- `boot::refusals::show` meets its contract. Assumes nothing.
+-- `refusals::show` meets its contract. Assumes nothing.
 use borrow.Author.Needs.{needs}
 use Prim.Native.Nat.{_-_}
 use mathlib.Core.Path.{_≡_}
 use lib.ListN.{length}
-use Rattle.boot.proofs.refusals.show.Statement.{statement}
-use Rattle.boot.proofs.refusals.show.Tie as tie
+use Rattle.refusals.proofs.show.Statement.{statement}
+use Rattle.refusals.proofs.show.Tie as tie
 
 abbrev Inv-loop : tie.InvT-loop
 Inv-loop h table trees₀ locals₀ bits₀ n₀ trees locals bits n = (length trees ≡ length trees₀) × ((length locals ≡ length locals₀) × (length bits ≡ length bits₀))
