@@ -5,15 +5,13 @@ use rules::Name;
 use rules::Request;
 use tallies::Rows;
 use ways::Granted;
-use ways::Outcome;
-use ways::Refusal;
 use ways::Reply;
 ghost use mathlib.Core.Path.{_≡_};
 ghost use mathlib.Core.List.{List};
 ghost use Prim.Native.Nat.{ℕ};
 ghost use Rattle.rules.specs.Words.{config};
 ghost use Rattle.ways.specs.State.{st};
-ghost use Rattle.ways.specs.Calls.{numberOf, outcomeOf, telling, fresh, toldGet, start, get, put, drain};
+ghost use Rattle.ways.specs.Calls.{telling, fresh, toldGet, start, get, put, drain};
 ghost use Rattle.statistics.specs.Report.{reportOf};
 ghost use Rattle.ffi.specs.Args.{nameOf, givenOf, asking};
 ghost use Rattle.ffi.specs.Figures.{figuresOf};
@@ -37,35 +35,6 @@ pub struct Figures {
     pub rows: Rows,
 }
 
-// The number of a refusal.
-fn refusal_number(x: Refusal) -> usize
-    ensures { λ r. ⌜ r ≡ numberOf x ⌝ }
-{
-    match x {
-        Refusal::Broken => 1,
-        Refusal::Order => 2,
-        Refusal::Bounds => 3,
-        Refusal::Misaligned => 4,
-        Refusal::Class => 5,
-        Refusal::Local => 6,
-        Refusal::Memory => 7,
-        Refusal::NotHeld => 8,
-        Refusal::Stuck => 9,
-        Refusal::Config => 10,
-        Refusal::Rows => 11,
-    }
-}
-
-// The number of an outcome.
-fn number(o: Outcome) -> usize
-    ensures { λ r. ⌜ r ≡ outcomeOf o ⌝ }
-{
-    match o {
-        Outcome::Done => 0,
-        Outcome::Refused(x) => refusal_number(x),
-    }
-}
-
 // A get's answer in numbers.
 fn answered(r: Reply) -> Answer
     ensures { λ a. ⌜ ((t l b : List ℕ) → telling (a .number) (a .frame) (a .class) (st t l b (a .looks) (a .tries)) ≡ toldGet r t l b) ⌝ }
@@ -80,7 +49,7 @@ fn answered(r: Reply) -> Answer
             tries: r.tries,
         },
         Granted::Refused(x) => Answer {
-            number: refusal_number(x),
+            number: numbers::refusal_number(x),
             frame: 0,
             class: 0,
             looks: r.looks,
@@ -133,7 +102,7 @@ pub extern "C" fn llfree_start(
     ensures { λ r. ⌜ telling r 0 0 (fresh (now (trees .exit)) (now (locals .exit)) (now (bits .exit)))
         ≡ start (config h (now (table .entry))) free (now (trees .entry)) (now (locals .entry)) (now (bits .entry)) ⌝ }
 {
-    number(llfree::start(h, table, trees, locals, bits, free))
+    numbers::number(llfree::start(h, table, trees, locals, bits, free))
 }
 
 // A get, of the named frame or of any.
@@ -177,7 +146,7 @@ pub extern "C" fn llfree_put(
         ≡ put (config h (now (table .entry))) (asking order class given local) frame (now (trees .entry)) (now (locals .entry)) (now (bits .entry)) ⌝ }
 {
     let q = ask(order, class, given, local);
-    number(llfree::put(h, table, trees, locals, bits, frame, q))
+    numbers::number(llfree::put(h, table, trees, locals, bits, frame, q))
 }
 
 // Every reservation is returned.
@@ -192,7 +161,7 @@ pub extern "C" fn llfree_drain(
     ensures { λ r. ⌜ telling r 0 0 (fresh (now (trees .exit)) (now (locals .exit)) (now (bits .exit)))
         ≡ drain (config h (now (table .entry))) (now (trees .entry)) (now (locals .entry)) (now (bits .entry)) ⌝ }
 {
-    number(llfree::drain(h, table, trees, locals, bits))
+    numbers::number(llfree::drain(h, table, trees, locals, bits))
 }
 
 // Statistics, where so many tally rows are to be filled: the rows come by value.
@@ -212,7 +181,7 @@ pub extern "C" fn llfree_figures<'a>(
     let outcome = totals.outcome;
     let all = told.rows;
     Figures {
-        number: number(outcome),
+        number: numbers::number(outcome),
         free: totals.free,
         trees: totals.trees,
         rows: all,

@@ -5,7 +5,7 @@ use Rattle.ffi.proofs.answered.Statement.{statement}
 use Rattle.ffi.proofs.answered.Tie as tie
 use Rattle.ffi.proofs.answered.Reads as reads
 use Rattle.ffi.proofs.answered.Lts as lts
-use Rattle.ffi.proofs.refusal_number.Reads as refusal-number-reads
+use Rattle.numbers.proofs.refusal_number.Reads as refusal-number-reads
 
 enum-known-granted : tie.Need-enum-known-granted
 enum-known-granted c = search needs

@@ -1,11 +1,11 @@
--- `ffi::number` meets its contract. Assumes nothing.
+-- `numbers::number` meets its contract. Assumes nothing.
 use Rattle.ways.specs.Calls.{outcomeOf, numberOf}
 use borrow.Author.Needs.{needs}
-use Rattle.ffi.proofs.number.Statement.{statement}
-use Rattle.ffi.proofs.number.Tie as tie
-use Rattle.ffi.proofs.number.Reads as reads
-use Rattle.ffi.proofs.number.Lts as lts
-use Rattle.ffi.proofs.refusal_number.Reads as refusal-number-reads
+use Rattle.numbers.proofs.number.Statement.{statement}
+use Rattle.numbers.proofs.number.Tie as tie
+use Rattle.numbers.proofs.number.Reads as reads
+use Rattle.numbers.proofs.number.Lts as lts
+use Rattle.numbers.proofs.refusal_number.Reads as refusal-number-reads
 
 enum-told : tie.Need-enum-told
 enum-told c = search needs

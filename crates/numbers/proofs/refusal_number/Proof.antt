@@ -1,10 +1,10 @@
--- `ffi::refusal_number` meets its contract. Assumes nothing.
+-- `numbers::refusal_number` meets its contract. Assumes nothing.
 use Rattle.ways.specs.Calls.{numberOf}
 use borrow.Author.Needs.{needs}
-use Rattle.ffi.proofs.refusal_number.Statement.{statement}
-use Rattle.ffi.proofs.refusal_number.Tie as tie
-use Rattle.ffi.proofs.refusal_number.Reads as reads
-use Rattle.ffi.proofs.refusal_number.Lts as lts
+use Rattle.numbers.proofs.refusal_number.Statement.{statement}
+use Rattle.numbers.proofs.refusal_number.Tie as tie
+use Rattle.numbers.proofs.refusal_number.Reads as reads
+use Rattle.numbers.proofs.refusal_number.Lts as lts
 
 enum-told : tie.Need-enum-told
 enum-told c = search needs

@@ -1,0 +1,125 @@
+// The answers to calls, and to lines that are no command, written into a buffer.
+use statistics::Report;
+use tallies::Rows;
+use ways::Granted;
+use ways::Outcome;
+use ways::Reply;
+use ways::Tally;
+ghost use Prim.Native.Nat.{_+_, _≤_, _<_};
+
+// A number from 6 on, and its name.
+fn later_name(out: &mut [u8], at: usize, n: usize) -> usize {
+    if n == 6 {
+        return texts::append(out, at, b"6 Local");
+    }
+    if n == 7 {
+        return texts::append(out, at, b"7 Memory");
+    }
+    if n == 8 {
+        return texts::append(out, at, b"8 NotHeld");
+    }
+    if n == 9 {
+        return texts::append(out, at, b"9 Stuck");
+    }
+    if n == 10 {
+        return texts::append(out, at, b"10 Config");
+    }
+    texts::append(out, at, b"11 Rows")
+}
+
+// A number of document 01, and its name.
+pub fn name(out: &mut [u8], at: usize, n: usize) -> usize {
+    if n == 0 {
+        return texts::append(out, at, b"0 Done");
+    }
+    if n == 1 {
+        return texts::append(out, at, b"1 Broken");
+    }
+    if n == 2 {
+        return texts::append(out, at, b"2 Order");
+    }
+    if n == 3 {
+        return texts::append(out, at, b"3 Bounds");
+    }
+    if n == 4 {
+        return texts::append(out, at, b"4 Misaligned");
+    }
+    if n == 5 {
+        return texts::append(out, at, b"5 Class");
+    }
+    later_name(out, at, n)
+}
+
+// The answer to a start, a put or a drain.
+pub fn outcome(out: &mut [u8], at: usize, call: &[u8], o: Outcome) -> usize {
+    let to = texts::append(out, at, call);
+    let to = name(out, to, numbers::number(o));
+    texts::put_byte(out, to, b'\n')
+}
+
+// The frame and class of a get that is done, and no others.
+fn granted(out: &mut [u8], at: usize, g: Granted) -> usize {
+    match g {
+        Granted::Done { frame, class } => {
+            let to = texts::put_number(out, at, b"0 Done frame ", frame as u64);
+            texts::put_number(out, to, b" class ", class as u64)
+        }
+        Granted::Refused(x) => {
+            let to = name(out, at, numbers::refusal_number(x));
+            texts::append(out, to, b" frame - class -")
+        }
+    }
+}
+
+// The answer to a get.
+pub fn reply(out: &mut [u8], at: usize, r: Reply) -> usize {
+    let to = texts::append(out, at, b"get ");
+    let g = r.granted;
+    let to = granted(out, to, g);
+    let to = texts::put_number(out, to, b" looks ", r.looks as u64);
+    let to = texts::put_number(out, to, b" tries ", r.tries as u64);
+    texts::put_byte(out, to, b'\n')
+}
+
+// A row of the statistics.
+fn row(out: &mut [u8], at: usize, class: u64, t: Tally) -> usize {
+    let to = texts::put_number(out, at, b"row ", class);
+    let to = texts::put_number(out, to, b" free ", t.free as u64);
+    let to = texts::put_number(out, to, b" alloc ", t.alloc as u64);
+    let to = texts::put_number(out, to, b" used ", t.used as u64);
+    texts::put_byte(out, to, b'\n')
+}
+
+// The eight rows.
+fn rows(out: &mut [u8], at: usize, r: Rows) -> usize {
+    let to = row(out, at, 0, r.r0);
+    let to = row(out, to, 1, r.r1);
+    let to = row(out, to, 2, r.r2);
+    let to = row(out, to, 3, r.r3);
+    let to = row(out, to, 4, r.r4);
+    let to = row(out, to, 5, r.r5);
+    let to = row(out, to, 6, r.r6);
+    row(out, to, 7, r.r7)
+}
+
+// The answer to statistics: the rows follow where they are filled.
+pub fn stats(out: &mut [u8], at: usize, told: Report) -> usize {
+    let t = told.totals;
+    let o = t.outcome;
+    let all = told.rows;
+    let to = texts::append(out, at, b"stats ");
+    let to = name(out, to, numbers::number(o));
+    let to = texts::put_number(out, to, b" free ", t.free as u64);
+    let to = texts::put_number(out, to, b" trees ", t.trees as u64);
+    let to = texts::put_byte(out, to, b'\n');
+    if told.done {
+        return rows(out, to, all);
+    }
+    to
+}
+
+// The answer to a line that is no command: its number.
+pub fn wrong(out: &mut [u8], at: usize, number: u64) -> usize {
+    let to = texts::put_number(out, at, b"? ", number);
+    texts::put_byte(out, to, b'\n')
+}

@@ -1,0 +1,247 @@
+// The boot loader: the firmware's first caller, and the example of how the library is called. It starts the store, takes the frames of the
+// boot patterns, gives them back, drains, and reports each answer. No refusal is passed over: the crate `says` has what the loader does
+// on each, the crate `refusals` a call for each.
+use patterns::Pattern;
+use rules::Header;
+use rules::Name;
+use ways::Granted;
+use ways::Outcome;
+ghost use mathlib.Core.Path.{_≡_};
+ghost use mathlib.Core.Bool.{true};
+ghost use Rattle.rules.specs.Words.{config};
+ghost use Rattle.ways.specs.Calls.{outcomeOf};
+ghost use Rattle.patterns.specs.Board.{Ready};
+ghost use Rattle.patterns.specs.Patterns.{framesOf};
+ghost use Prim.Native.Nat.{_+_, _*_, _/_, _^_, _<_, _≤_};
+ghost use lib.ListN.{length};
+
+// What is held of a pattern: whether it is whole, and how many frames. The binary digits of that number are the orders of the blocks; the block
+// of an order begins at first[order].
+struct Held {
+    whole: bool,
+    frames: usize,
+    first: [usize; 12],
+}
+
+// Takes a pattern's blocks, the largest first, up to the first refusal.
+fn take(
+    h: Header,
+    table: &[u32; 64],
+    trees: &mut [u32],
+    locals: &mut [u64],
+    bits: &mut [u64],
+    p: Pattern,
+) -> Held
+    ensures { λ r. ⌜ (r .whole ≡ true → r .frames ≡ framesOf p) ⌝ }
+{
+    let wanted = patterns::frames(p);
+    let mut frames = 0;
+    let mut first = [0usize; 12];
+    let mut order = 12;
+    while order > 0 {
+        order -= 1;
+        if !patterns::has_block(wanted, order) {
+            continue;
+        }
+        let q = patterns::request(p, order);
+        let reply = llfree::get(h, table, trees, locals, bits, Name::Any, q);
+        says::got(p, order, reply);
+        let granted = reply.granted;
+        let Granted::Done { frame, class: _ } = granted else {
+            return Held {
+                whole: false,
+                frames: frames,
+                first: first,
+            };
+        };
+        first[order] = frame;
+        frames += bits::size(order);
+    }
+    Held {
+        whole: true,
+        frames: frames,
+        first: first,
+    }
+}
+
+// Gives back the blocks that are held of a pattern, each with the order, class and local that it was taken with.
+fn give(
+    h: Header,
+    table: &[u32; 64],
+    trees: &mut [u32],
+    locals: &mut [u64],
+    bits: &mut [u64],
+    p: Pattern,
+    held: Held,
+) {
+    let frames = held.frames;
+    let first = held.first;
+    let mut order = 12;
+    while order > 0 {
+        order -= 1;
+        if !patterns::has_block(frames, order) {
+            continue;
+        }
+        let q = patterns::request(p, order);
+        let outcome = llfree::put(h, table, trees, locals, bits, first[order], q);
+        says::gave(p, order, outcome);
+    }
+}
+
+// A pattern is held whole; or what was taken is given back, and the dim pattern that is built in is shown in its place.
+fn show(
+    h: Header,
+    table: &[u32; 64],
+    trees: &mut [u32],
+    locals: &mut [u64],
+    bits: &mut [u64],
+    p: Pattern,
+) -> Held {
+    let held = take(h, table, trees, locals, bits, p);
+    if held.whole {
+        says::shown(p);
+        return held;
+    }
+    give(h, table, trees, locals, bits, p, held);
+    says::built_in(p);
+    Held {
+        whole: false,
+        frames: 0,
+        first: [0; 12],
+    }
+}
+
+// The three patterns of a boot.
+struct Shown {
+    raster: Held,
+    first: Held,
+    second: Held,
+}
+
+// Takes the three patterns.
+fn show_all(
+    h: Header,
+    table: &[u32; 64],
+    trees: &mut [u32],
+    locals: &mut [u64],
+    bits: &mut [u64],
+) -> Shown {
+    let raster = show(h, table, trees, locals, bits, Pattern::Raster);
+    let first = show(h, table, trees, locals, bits, Pattern::FirstOverlay);
+    let second = show(h, table, trees, locals, bits, Pattern::SecondOverlay);
+    Shown {
+        raster: raster,
+        first: first,
+        second: second,
+    }
+}
+
+// Gives the three patterns back.
+fn give_all(
+    h: Header,
+    table: &[u32; 64],
+    trees: &mut [u32],
+    locals: &mut [u64],
+    bits: &mut [u64],
+    shown: Shown,
+) {
+    let raster = shown.raster;
+    let first = shown.first;
+    let second = shown.second;
+    give(h, table, trees, locals, bits, Pattern::Raster, raster);
+    give(h, table, trees, locals, bits, Pattern::FirstOverlay, first);
+    give(
+        h,
+        table,
+        trees,
+        locals,
+        bits,
+        Pattern::SecondOverlay,
+        second,
+    );
+}
+
+// Gives the patterns back and drains: all frames are free again.
+fn finish(
+    h: Header,
+    table: &[u32; 64],
+    trees: &mut [u32],
+    locals: &mut [u64],
+    bits: &mut [u64],
+    shown: Shown,
+) {
+    give_all(h, table, trees, locals, bits, shown);
+    let drained = llfree::drain(h, table, trees, locals, bits);
+    says::outcome(b"drain", drained);
+    says::figures(h, statistics::tell(h, table, trees, locals, bits, 8));
+}
+
+// The calls after an accepted start.
+fn serve(h: Header, table: &[u32; 64], trees: &mut [u32], locals: &mut [u64], bits: &mut [u64]) {
+    let shown = show_all(h, table, trees, locals, bits);
+    says::figures(h, statistics::tell(h, table, trees, locals, bits, 8));
+    finish(h, table, trees, locals, bits, shown);
+}
+
+// The store starts with all frames free. On a header, a table and lengths that are accepted it is Done.
+fn start(
+    h: Header,
+    table: &[u32; 64],
+    trees: &mut [u32],
+    locals: &mut [u64],
+    bits: &mut [u64],
+) -> Outcome
+    requires { ⌜ Ready (config h (now table)) (now trees) (now locals) (now bits) ⌝ }
+    ensures { λ r. ⌜ outcomeOf r ≡ 0 ⌝ }
+{
+    llfree::start(h, table, trees, locals, bits, true)
+}
+
+// A boot on lent words. A start that is refused would end it; that the starts of both boards are Done is proved.
+fn boot(h: Header, table: &[u32; 64], trees: &mut [u32], locals: &mut [u64], bits: &mut [u64])
+    requires { ⌜ Ready (config h (now table)) (now trees) (now locals) (now bits) ⌝ }
+{
+    says::board(h);
+    let started = start(h, table, trees, locals, bits);
+    says::outcome(b"start", started);
+    match started {
+        Outcome::Done => serve(h, table, trees, locals, bits),
+        Outcome::Refused(_) => (),
+    }
+}
+
+// The board.
+fn boot_board() {
+    let table = patterns::table();
+    let mut trees = [0u32; 32];
+    let mut locals = [0u64; 4];
+    let mut bits = [0u64; 1024];
+    let h = patterns::header(patterns::FRAMES);
+    boot(h, &table, &mut trees, &mut locals, &mut bits);
+}
+
+// A board too small for the raster.
+fn boot_small() {
+    let table = patterns::table();
+    let mut trees = [0u32; 1];
+    let mut locals = [0u64; 4];
+    let mut bits = [0u64; 32];
+    let h = patterns::header(patterns::SMALL);
+    boot(h, &table, &mut trees, &mut locals, &mut bits);
+}
+
+// The refusals, on a store of the small board.
+fn show_refusals() {
+    let table = patterns::table();
+    let mut trees = [0u32; 1];
+    let mut locals = [0u64; 4];
+    let mut bits = [0u64; 32];
+    let h = patterns::header(patterns::SMALL);
+    refusals::show(h, &table, &mut trees, &mut locals, &mut bits);
+}
+
+fn main() {
+    boot_board();
+    boot_small();
+    show_refusals();
+}

@@ -1,0 +1,3 @@
+-- the board and the patterns
+pub mod Board
+pub mod Patterns
