@@ -1,3 +1,4 @@
+-- `pictures::look::local_lines` meets its contract. Assumes nothing.
 use borrow.Author.Needs.{needs}
 use native.Mathlib.Omega.{arith}
 use Prim.Native.Nat.{ℕ, _+_, _-_, _*_, _≤_, _<_}
