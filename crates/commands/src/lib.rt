@@ -1,4 +1,4 @@
-// The line form: a line read into a command. No function asks more of its arguments than their types.
+// The commands of the line form, each read from the words after its name. No function asks more of its arguments than their types.
 use lines::Arg;
 use lines::Args;
 use rules::Given;
@@ -81,7 +81,7 @@ pub enum Command {
 }
 
 // Whether no word is left.
-fn is_end(a: Arg) -> bool {
+pub fn is_end(a: Arg) -> bool {
     a.kind == 0
 }
 
@@ -134,7 +134,7 @@ fn low32(x: u64) -> u32 {
 }
 
 // frames F
-fn frames(w: Args) -> Command {
+pub fn frames(w: Args) -> Command {
     let Bounded::Is(f) = within(w.a, u64::MAX) else {
         return Command::Wrong;
     };
@@ -145,7 +145,7 @@ fn frames(w: Args) -> Command {
 }
 
 // default D
-fn default_class(w: Args) -> Command {
+pub fn default_class(w: Args) -> Command {
     let Bounded::Is(d) = within(w.a, 200) else {
         return Command::Wrong;
     };
@@ -174,7 +174,7 @@ fn is_some(k: Optional) -> bool {
 }
 
 // class C K
-fn class(w: Args) -> Command {
+pub fn class(w: Args) -> Command {
     let Bounded::Is(c) = within(w.a, 7) else {
         return Command::Wrong;
     };
@@ -207,7 +207,7 @@ fn pair_place(w: Args) -> Bounded {
 }
 
 // pair R T KIND CUT LOW HIGH
-fn pair(w: Args) -> Command {
+pub fn pair(w: Args) -> Command {
     let Bounded::Is(at) = pair_place(w) else {
         return Command::Wrong;
     };
@@ -242,7 +242,7 @@ fn length_of(k: Optional) -> Length {
 }
 
 // lend T L B
-fn lend(w: Args) -> Command {
+pub fn lend(w: Args) -> Command {
     let trees = maybe(w.a, 200);
     let locals = maybe(w.b, 256);
     let bits = maybe(w.c, 6400);
@@ -263,7 +263,7 @@ fn lend(w: Args) -> Command {
 }
 
 // rows R
-fn rows(w: Args) -> Command {
+pub fn rows(w: Args) -> Command {
     let Bounded::Is(n) = within(w.a, 16) else {
         return Command::Wrong;
     };
@@ -274,7 +274,7 @@ fn rows(w: Args) -> Command {
 }
 
 // entry I W
-fn entry(w: Args) -> Command {
+pub fn entry(w: Args) -> Command {
     let Bounded::Is(at) = within(w.a, 199) else {
         return Command::Wrong;
     };
@@ -291,7 +291,7 @@ fn entry(w: Args) -> Command {
 }
 
 // local I W
-fn local(w: Args) -> Command {
+pub fn local(w: Args) -> Command {
     let Bounded::Is(at) = within(w.a, 255) else {
         return Command::Wrong;
     };
@@ -308,7 +308,7 @@ fn local(w: Args) -> Command {
 }
 
 // word I W
-fn bitmap_word(w: Args) -> Command {
+pub fn bitmap_word(w: Args) -> Command {
     let Bounded::Is(at) = within(w.a, 6399) else {
         return Command::Wrong;
     };
@@ -325,7 +325,7 @@ fn bitmap_word(w: Args) -> Command {
 }
 
 // fill FROM COUNT W
-fn fill(w: Args) -> Command {
+pub fn fill(w: Args) -> Command {
     let Bounded::Is(from) = within(w.a, 6400) else {
         return Command::Wrong;
     };
@@ -382,7 +382,7 @@ fn asked(w: Args) -> Wanted {
 }
 
 // get FRAME ORDER CLASS LOCAL
-fn get(w: Args) -> Command {
+pub fn get(w: Args) -> Command {
     let Wanted::For(q) = asked(w) else {
         return Command::Wrong;
     };
@@ -400,7 +400,7 @@ fn get(w: Args) -> Command {
 }
 
 // put FRAME ORDER CLASS LOCAL
-fn put(w: Args) -> Command {
+pub fn put(w: Args) -> Command {
     let Wanted::For(q) = asked(w) else {
         return Command::Wrong;
     };
@@ -411,118 +411,4 @@ fn put(w: Args) -> Command {
         frame: f as usize,
         q: q,
     })
-}
-
-// start free, start held: the line from `at` on.
-fn start(s: &[u8], at: usize) -> Command {
-    let from = lines::past_spaces(s, at);
-    let to = lines::word_end(s, from);
-    if lines::past_spaces(s, to) < s.len() {
-        return Command::Wrong;
-    }
-    if from < to {
-        if to <= s.len() {
-            if lines::is(&s[from..to], b"free") {
-                return Command::Call(Call::Start(true));
-            }
-            if lines::is(&s[from..to], b"held") {
-                return Command::Call(Call::Start(false));
-            }
-        }
-    }
-    Command::Wrong
-}
-
-// A command of one word.
-fn alone(name: &[u8], w: Args) -> Command {
-    if is_end(w.a) {
-        if lines::is(name, b"drain") {
-            return Command::Call(Call::Drain);
-        }
-        if lines::is(name, b"stats") {
-            return Command::Call(Call::Stats);
-        }
-        if lines::is(name, b"dump") {
-            return Command::Show(Show::Dump);
-        }
-        if lines::is(name, b"sum") {
-            return Command::Show(Show::Sum);
-        }
-        if lines::is(name, b"look") {
-            return Command::Show(Show::Look);
-        }
-    }
-    Command::Wrong
-}
-
-// A line that sets the header or what is lent, or a command of one word.
-fn header_line(name: &[u8], w: Args) -> Command {
-    if lines::is(name, b"frames") {
-        return frames(w);
-    }
-    if lines::is(name, b"default") {
-        return default_class(w);
-    }
-    if lines::is(name, b"class") {
-        return class(w);
-    }
-    if lines::is(name, b"lend") {
-        return lend(w);
-    }
-    if lines::is(name, b"rows") {
-        return rows(w);
-    }
-    alone(name, w)
-}
-
-// A command whose words are numbers.
-fn numbered(name: &[u8], w: Args) -> Command {
-    if lines::is(name, b"get") {
-        return get(w);
-    }
-    if lines::is(name, b"put") {
-        return put(w);
-    }
-    if lines::is(name, b"word") {
-        return bitmap_word(w);
-    }
-    if lines::is(name, b"entry") {
-        return entry(w);
-    }
-    if lines::is(name, b"local") {
-        return local(w);
-    }
-    if lines::is(name, b"fill") {
-        return fill(w);
-    }
-    if lines::is(name, b"pair") {
-        return pair(w);
-    }
-    header_line(name, w)
-}
-
-// The command whose name stands from `from` to `to`.
-fn named(s: &[u8], from: usize, to: usize) -> Command {
-    if from > to {
-        return Command::Wrong;
-    }
-    if to > s.len() {
-        return Command::Wrong;
-    }
-    if lines::is(&s[from..to], b"start") {
-        return start(s, to);
-    }
-    numbered(&s[from..to], lines::words(s, to))
-}
-
-// What a line says, without its line feed.
-pub fn parse(s: &[u8]) -> Command {
-    let from = lines::past_spaces(s, 0);
-    if from >= s.len() {
-        return Command::Nothing;
-    }
-    if s[0] == b'#' {
-        return Command::Nothing;
-    }
-    named(s, from, lines::word_end(s, from))
 }

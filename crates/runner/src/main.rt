@@ -132,7 +132,21 @@ fn command(buf: &[u8], from: usize, to: usize) -> Command {
     if from > to {
         return Command::Wrong;
     }
-    commands::parse(&buf[from..to])
+    parses::parse(&buf[from..to])
+}
+
+// The run past a line that ends at `e`.
+fn past(r: Run, held: Held, e: usize, number: u64, at: usize) -> Run {
+    Run {
+        held: held,
+        from: std::num::wrapping_add_usize(e, 1),
+        have: r.have,
+        number: number,
+        over: false,
+        ended: r.ended,
+        at: at,
+        done: false,
+    }
 }
 
 // The line that ends at `e`, or the rest of one that is passed over.
@@ -147,43 +161,15 @@ fn line(
     out: &mut [u8; 262144],
 ) -> Run {
     let held = r.held;
-    let next = std::num::wrapping_add_usize(e, 1);
     if r.over {
-        return Run {
-            held: held,
-            from: next,
-            have: r.have,
-            number: r.number,
-            over: false,
-            ended: r.ended,
-            at: r.at,
-            done: false,
-        };
+        return past(r, held, e, r.number, r.at);
     }
     let n = std::num::wrapping_add_u64(r.number, 1);
     let at = room(out, r.at);
-    let stood = obey(
-        command(buf, r.from, e),
-        n,
-        held,
-        table,
-        trees,
-        locals,
-        bits,
-        out,
-        at,
-    );
+    let c = command(buf, r.from, e);
+    let stood = obey(c, n, held, table, trees, locals, bits, out, at);
     let after = stood.held;
-    Run {
-        held: after,
-        from: next,
-        have: r.have,
-        number: n,
-        over: false,
-        ended: r.ended,
-        at: stood.at,
-        done: false,
-    }
+    past(r, after, e, n, stood.at)
 }
 
 // The run with `have` bytes at the start of the input, all answers written.
