@@ -1,3 +1,2 @@
--- what the state test and the argument tests give to the calls behind them; statistics by value
+-- what the state test and the argument tests give to the calls behind them
 pub mod Tested
-pub mod Totals

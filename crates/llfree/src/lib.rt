@@ -8,15 +8,12 @@ use ways::Outcome;
 use ways::Refusal;
 use ways::Reply;
 use ways::Routed;
-use ways::Totals;
 ghost use mathlib.Core.Path.{_≡_};
 ghost use mathlib.Core.List.{List};
 ghost use Prim.Native.Nat.{ℕ};
 ghost use Rattle.ways.specs.declared.Granted.the-variants as Granted;
 ghost use Rattle.ways.specs.State.{ended};
 ghost use Rattle.ways.specs.Calls.{toldGet, close, frameOf};
-ghost use Rattle.rules.specs.Words.{config};
-ghost use Rattle.llfree.specs.Totals.{totalsOf};
 ghost use Rattle.ways.specs.Promises.{words, StartPromise, GetPromise, PutPromise, DrainPromise};
 
 // A refused get names no frame and no class.
@@ -155,38 +152,5 @@ pub fn drain(
         drains::drain_body(h, table, trees, locals)
     } else {
         Outcome::Refused(Refusal::Broken)
-    }
-}
-
-// Statistics but for the rows: total free and free trees, where so many tally rows are lent.
-pub fn totals(
-    h: Header,
-    table: &[u32; 64],
-    trees: &[u32],
-    locals: &[u64],
-    bits: &[u64],
-    rows: usize,
-) -> Totals
-    ensures { λ r. ⌜ r ≡ totalsOf (config h (now (table .entry))) (now (trees .entry)) (now (locals .entry)) (now (bits .entry)) rows ⌝ }
-{
-    if state::stands(h, table, trees, locals, bits) {
-        if rows == 8 {
-            let whole = tallies::totals(h, table, trees, locals);
-            return Totals {
-                outcome: Outcome::Done,
-                free: whole.free,
-                trees: whole.trees,
-            };
-        }
-        return Totals {
-            outcome: Outcome::Refused(Refusal::Rows),
-            free: 0,
-            trees: 0,
-        };
-    }
-    Totals {
-        outcome: Outcome::Refused(Refusal::Broken),
-        free: 0,
-        trees: 0,
     }
 }

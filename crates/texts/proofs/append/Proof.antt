@@ -1,62 +1,60 @@
+-- `texts::append` meets its contract. Assumes nothing.
 use borrow.Author.Needs.{needs}
+use mathlib.Core.Path.{_≡_, refl, sym, ap, _∙_}
+use Prim.Native.Nat.{ℕ, _-_, _≤_}
 use native.Mathlib.Omega.{arith}
-use Prim.Native.Nat.{ℕ, _+_, _-_, _*_, _≤_, _<_}
-use mathlib.Core.Path.{_≡_}
-use lib.ListN.{length, getD}
+use lib.ListN.{length, getD, take}
+use lib.Seq.{take-all}
+use Rattle.texts.specs.Text.{Text, text, byte, write, write-next}
 use Rattle.texts.proofs.append.Statement.{statement}
 use Rattle.texts.proofs.append.Tie as tie
 use Rattle.texts.proofs.append.Reads as reads
 use Rattle.texts.proofs.append.Lts as lts
+use Rattle.texts.proofs.put_byte.Reads as put-byte-reads
 
 abbrev Inv-loop : tie.InvT-loop
-Inv-loop out₀ at src i₀ to₀ out i to = length out ≡ length out₀
+Inv-loop out₀ at src i₀ to₀ out i to = (length out ≡ length out₀) × ((i ≤ length src) × (text out to ≡ write (text out₀ at) (take i src)))
 
 abbrev μ-loop : tie.MeasureT-loop
 μ-loop out₀ at src i₀ to₀ out i to = length src - i
 
--- src/print.rt:9:5
 loop-holds : tie.Need-loop-holds Inv-loop μ-loop
-loop-holds c = search needs
+unfolding write
+loop-holds c = (refl, (omega arith, refl))
 
--- src/print.rt:11:13
-same-length : tie.Need-same-length Inv-loop μ-loop
-same-length c = search needs
+shared-slice-read-put-byte : tie.Need-shared-slice-read-put-byte Inv-loop μ-loop
+shared-slice-read-put-byte c = search needs
 
--- src/print.rt:11:13
-returns : tie.Need-returns Inv-loop μ-loop
-returns c = search needs
+put-byte-requires : tie.Need-put-byte-requires Inv-loop μ-loop
+put-byte-requires c κs = search needs
 
--- src/print.rt:13:19
-shared-slice-read-out : tie.Need-shared-slice-read-out Inv-loop μ-loop
-shared-slice-read-out c = search needs
-
--- src/print.rt:13:9
-slice-write-out : tie.Need-slice-write-out Inv-loop μ-loop
-slice-write-out c = search needs
-
--- src/print.rt:14:9
 add-i : tie.Need-add-i Inv-loop μ-loop
 add-i c = search needs
 
--- src/print.rt:15:9
-add-to : tie.Need-add-to Inv-loop μ-loop
-add-to c = search needs
-
--- src/print.rt:9:5
 loop-less : tie.Need-loop-less Inv-loop μ-loop
 loop-less c = search needs
 
--- src/print.rt:9:5
 loop-again : tie.Need-loop-again Inv-loop μ-loop
-loop-again c = search needs
+loop-again c =
+    let l = c .before .before .before .before .before .before .loop in
+    let a = c .before .before .before .before .before .before .before .before .before .args in (
+      c .before .before .put-byte .kept .0 ∙ l .inv .0,
+      (
+        omega arith,
+        c .before .before .put-byte .ensures
+            ∙ ap (λ (t : Text). byte t (getD (a .src .now) (l .i) 0)) (l .inv .1 .1)
+            ∙ write-next (text (a .out .now) (a .at)) (a .src .now) (l .i) (c .before .before .before .before .before .loop-test .taken),
+      ),
+    )
 
--- src/print.rt:6:1
-same-length-2 : tie.Need-same-length-2 Inv-loop μ-loop
-same-length-2 c = search needs
+same-length : tie.Need-same-length Inv-loop μ-loop
+same-length c = c .before .loop .inv .0
 
--- src/print.rt:6:1
-returns-2 : tie.Need-returns-2 Inv-loop μ-loop
-returns-2 c = search needs
+returns : tie.Need-returns Inv-loop μ-loop
+returns c =
+    let l = c .before .loop in
+    let a = c .before .before .before .before .args in
+    l .inv .1 .1 ∙ ap (write (text (a .out .now) (a .at))) (take-all (l .i) (a .src .now) (c .loop-test .left))
 
 pub append-spec : {M : Type 1} → statement M
 append-spec =
@@ -65,13 +63,10 @@ append-spec =
     Inv-loop
     μ-loop
     loop-holds
-    same-length
-    returns
-    shared-slice-read-out
-    slice-write-out
+    shared-slice-read-put-byte
+    put-byte-requires
     add-i
-    add-to
     loop-less
     loop-again
-    same-length-2
-    returns-2)
+    same-length
+    returns)

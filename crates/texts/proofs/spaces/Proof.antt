@@ -1,8 +1,10 @@
+-- `texts::spaces` meets its contract. Assumes nothing.
 use borrow.Author.Needs.{needs}
+use mathlib.Core.Path.{_≡_, refl, sym, ap, _∙_}
+use Prim.Native.Nat.{ℕ, _-_, _≤_}
 use native.Mathlib.Omega.{arith}
-use Prim.Native.Nat.{ℕ, _+_, _-_, _*_, _≤_, _<_}
-use mathlib.Core.Path.{_≡_}
-use lib.ListN.{length, getD}
+use lib.ListN.{length}
+use Rattle.texts.specs.Text.{Text, text, byte, write, blanks, blanks-next}
 use Rattle.texts.proofs.spaces.Statement.{statement}
 use Rattle.texts.proofs.spaces.Tie as tie
 use Rattle.texts.proofs.spaces.Reads as reads
@@ -10,38 +12,46 @@ use Rattle.texts.proofs.spaces.Lts as lts
 use Rattle.texts.proofs.put_byte.Reads as put-byte-reads
 
 abbrev Inv-loop : tie.InvT-loop
-Inv-loop out₀ at from to i₀ place₀ out i place = length out ≡ length out₀
+Inv-loop out₀ at n i₀ to₀ out i to = (length out ≡ length out₀) × ((i ≤ n) × (text out to ≡ write (text out₀ at) (blanks i)))
 
 abbrev μ-loop : tie.MeasureT-loop
-μ-loop out₀ at from to i₀ place₀ out i place = to - i
+μ-loop out₀ at n i₀ to₀ out i to = n - i
 
--- src/print.rt:54:5
 loop-holds : tie.Need-loop-holds Inv-loop μ-loop
-loop-holds c = search needs
+unfolding write blanks
+loop-holds c = (refl, (omega arith, refl))
 
--- src/print.rt:55:9
 put-byte-requires : tie.Need-put-byte-requires Inv-loop μ-loop
 put-byte-requires c κs = search needs
 
--- src/print.rt:56:9
 add-i : tie.Need-add-i Inv-loop μ-loop
 add-i c = search needs
 
--- src/print.rt:54:5
 loop-less : tie.Need-loop-less Inv-loop μ-loop
 loop-less c = search needs
 
--- src/print.rt:54:5
 loop-again : tie.Need-loop-again Inv-loop μ-loop
-loop-again c = search needs
+loop-again c =
+    let l = c .before .before .before .before .before .loop in
+    let a = c .before .before .before .before .before .before .before .args in (
+      c .before .before .put-byte .kept .0 ∙ l .inv .0,
+      (
+        omega arith,
+        c .before .before .put-byte .ensures
+            ∙ ap (λ (t : Text). byte t 32) (l .inv .1 .1)
+            ∙ blanks-next (text (a .out .now) (a .at)) (l .i),
+      ),
+    )
 
--- src/print.rt:51:1
 same-length : tie.Need-same-length Inv-loop μ-loop
-same-length c = search needs
+same-length c = c .before .loop .inv .0
 
--- src/print.rt:51:1
 returns : tie.Need-returns Inv-loop μ-loop
-returns c = search needs
+returns c =
+    let l = c .before .loop in
+    let a = c .before .before .before .args in
+    let all : l .i ≡ a .n = omega arith in
+    l .inv .1 .1 ∙ ap (λ (k : ℕ). write (text (a .out .now) (a .at)) (blanks k)) all
 
 pub spaces-spec : {M : Type 1} → statement M
 spaces-spec =

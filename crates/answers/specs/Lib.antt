@@ -1,0 +1,2 @@
+-- the text of each answer
+pub mod Answers

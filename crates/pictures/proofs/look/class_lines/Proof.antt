@@ -1,0 +1,52 @@
+-- `pictures::look::class_lines` meets its contract. Assumes nothing.
+use borrow.Author.Needs.{needs}
+use native.Mathlib.Omega.{arith}
+use Prim.Native.Nat.{ℕ, _+_, _-_, _*_, _≤_, _<_}
+use mathlib.Core.Path.{_≡_}
+use lib.ListN.{length, getD}
+use Rattle.pictures.proofs.look.class_lines.Statement.{statement}
+use Rattle.pictures.proofs.look.class_lines.Tie as tie
+use Rattle.pictures.proofs.look.class_lines.Reads as reads
+use Rattle.pictures.proofs.look.class_lines.Lts as lts
+use Rattle.pictures.proofs.look.class_line.Reads as class-line-reads
+
+abbrev Inv-loop : tie.InvT-loop
+Inv-loop h out₀ at to₀ class₀ out to class = length out ≡ length out₀
+
+abbrev μ-loop : tie.MeasureT-loop
+μ-loop h out₀ at to₀ class₀ out to class = 8 - class
+
+loop-holds : tie.Need-loop-holds Inv-loop μ-loop
+loop-holds c = search needs
+
+class-line-requires : tie.Need-class-line-requires Inv-loop μ-loop
+class-line-requires c κs = search needs
+
+add-class : tie.Need-add-class Inv-loop μ-loop
+add-class c = search needs
+
+loop-less : tie.Need-loop-less Inv-loop μ-loop
+loop-less c = search needs
+
+loop-again : tie.Need-loop-again Inv-loop μ-loop
+loop-again c = search needs
+
+same-length : tie.Need-same-length Inv-loop μ-loop
+same-length c = search needs
+
+returns : tie.Need-returns Inv-loop μ-loop
+returns c = search needs
+
+pub class-lines-spec : {M : Type 1} → statement M
+class-lines-spec =
+    tie.close
+    (tie.spec
+    Inv-loop
+    μ-loop
+    loop-holds
+    class-line-requires
+    add-class
+    loop-less
+    loop-again
+    same-length
+    returns)

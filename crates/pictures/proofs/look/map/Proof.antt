@@ -1,0 +1,75 @@
+-- `pictures::look::map` meets its contract. Assumes nothing.
+use borrow.Author.Needs.{needs}
+use native.Mathlib.Omega.{arith}
+use Prim.Native.Nat.{ℕ, _+_, _-_, _*_, _≤_, _<_}
+use mathlib.Core.Path.{_≡_}
+use lib.ListN.{length, getD}
+use Rattle.pictures.proofs.look.map.Statement.{statement}
+use Rattle.pictures.proofs.look.map.Tie as tie
+use Rattle.pictures.proofs.look.map.Reads as reads
+use Rattle.pictures.proofs.look.map.Lts as lts
+use Rattle.texts.proofs.put_byte.Reads as put-byte-reads
+use Rattle.pictures.proofs.look.before.Reads as before-reads
+use Rattle.pictures.proofs.look.cell.Reads as cell-reads
+use Rattle.words.proofs.tree_of.Reads as tree-of-reads
+
+abbrev Inv-loop : tie.InvT-loop
+Inv-loop trees out₀ at to₀ i₀ out to i = length out ≡ length out₀
+
+abbrev μ-loop : tie.MeasureT-loop
+μ-loop trees out₀ at to₀ i₀ out to i = length trees - i
+
+loop-holds : tie.Need-loop-holds Inv-loop μ-loop
+loop-holds c = search needs
+
+before-requires : tie.Need-before-requires Inv-loop μ-loop
+before-requires c κs = search needs
+
+mul-tree-of : tie.Need-mul-tree-of Inv-loop μ-loop
+mul-tree-of c = search needs
+
+shared-slice-read-tree-of : tie.Need-shared-slice-read-tree-of Inv-loop μ-loop
+shared-slice-read-tree-of c = search needs
+
+tree-of-requires : tie.Need-tree-of-requires Inv-loop μ-loop
+tree-of-requires c κs = search needs
+
+cell-requires : tie.Need-cell-requires Inv-loop μ-loop
+cell-requires c κs = search needs
+
+add-i : tie.Need-add-i Inv-loop μ-loop
+add-i c = search needs
+
+loop-less : tie.Need-loop-less Inv-loop μ-loop
+loop-less c = search needs
+
+loop-again : tie.Need-loop-again Inv-loop μ-loop
+loop-again c = search needs
+
+put-byte-requires : tie.Need-put-byte-requires Inv-loop μ-loop
+put-byte-requires c κs = search needs
+
+same-length : tie.Need-same-length Inv-loop μ-loop
+same-length c = search needs
+
+returns : tie.Need-returns Inv-loop μ-loop
+returns c = search needs
+
+pub map-spec : {M : Type 1} → statement M
+map-spec =
+    tie.close
+    (tie.spec
+    Inv-loop
+    μ-loop
+    loop-holds
+    before-requires
+    mul-tree-of
+    shared-slice-read-tree-of
+    tree-of-requires
+    cell-requires
+    add-i
+    loop-less
+    loop-again
+    put-byte-requires
+    same-length
+    returns)

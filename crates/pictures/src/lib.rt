@@ -1,0 +1,37 @@
+// What lines that only look answer: the words lent as lines, their sums, and the picture.
+use commands::Show;
+use stores::Held;
+
+mod look;
+
+ghost use Prim.Native.Nat.{_+_, _≤_, _<_};
+ghost use lib.ListN.{length};
+
+// The answer to a line that looks, at the words lent.
+pub fn show<'a>(
+    held: Held,
+    table: &'a [u32; 64],
+    trees: &'a [u32],
+    locals: &'a [u64],
+    bits: &'a [u64],
+    s: Show,
+    out: &mut [u8],
+    at: usize,
+) -> usize {
+    let t = stores::lent_trees(held, trees.len());
+    let l = stores::lent_locals(held, locals.len());
+    let b = stores::lent_bits(held, bits.len());
+    match s {
+        Show::Dump => dumps::dump(&trees[0..t], &locals[0..l], &bits[0..b], out, at),
+        Show::Sum => dumps::sum(&trees[0..t], &locals[0..l], &bits[0..b], out, at),
+        Show::Look => look::look(
+            held.h,
+            table,
+            &trees[0..t],
+            &locals[0..l],
+            &bits[0..b],
+            out,
+            at,
+        ),
+    }
+}

@@ -1,0 +1,255 @@
+// The runner's store: what a line sets, the words that it stores, the lengths that are lent, and the calls on the words lent.
+use answers::Answered;
+use commands::Call;
+use commands::Length;
+use commands::Setting;
+use commands::Store;
+use rules::Header;
+ghost use mathlib.Core.Path.{_≡_};
+ghost use Prim.Native.Nat.{_+_, _≤_, _<_};
+ghost use lib.ListN.{length};
+
+// The store but its words: the header, the lengths lent (plus one; 0 is the exact one), and the tally rows lent.
+pub struct Held {
+    pub h: Header,
+    pub trees: usize,
+    pub locals: usize,
+    pub bits: usize,
+    pub rows: usize,
+}
+
+// At the beginning all is zero, and the exact lengths and eight rows are lent.
+pub fn begun() -> Held {
+    Held {
+        h: Header {
+            frames: 0,
+            default: 0,
+            places: [0; 8],
+        },
+        trees: 0,
+        locals: 0,
+        bits: 0,
+        rows: 8,
+    }
+}
+
+// The header with another place for a class.
+fn placed(h: Header, class: usize, place: u8) -> Header {
+    let mut places = h.places;
+    if class < 8 {
+        places[class] = place;
+    }
+    Header {
+        frames: h.frames,
+        default: h.default,
+        places: places,
+    }
+}
+
+// The store with another header.
+fn with_header(held: Held, h: Header) -> Held {
+    Held {
+        h: h,
+        trees: held.trees,
+        locals: held.locals,
+        bits: held.bits,
+        rows: held.rows,
+    }
+}
+
+// A length lent, as it is held.
+fn held_length(n: Length) -> usize {
+    match n {
+        Length::Exact => 0,
+        Length::Of(k) => std::num::wrapping_add_usize(k, 1),
+    }
+}
+
+// A set-up line.
+pub fn set(held: Held, s: Setting) -> Held {
+    let h = held.h;
+    let places = h.places;
+    match s {
+        Setting::Frames(f) => with_header(
+            held,
+            Header {
+                frames: f,
+                default: h.default,
+                places: places,
+            },
+        ),
+        Setting::Default(d) => with_header(
+            held,
+            Header {
+                frames: h.frames,
+                default: d,
+                places: places,
+            },
+        ),
+        Setting::Class { class, place } => with_header(held, placed(h, class, place)),
+        Setting::Lend {
+            trees,
+            locals,
+            bits,
+        } => Held {
+            h: h,
+            trees: held_length(trees),
+            locals: held_length(locals),
+            bits: held_length(bits),
+            rows: held.rows,
+        },
+        Setting::Rows(r) => Held {
+            h: h,
+            trees: held.trees,
+            locals: held.locals,
+            bits: held.bits,
+            rows: r,
+        },
+    }
+}
+
+// Stores a word into words, where there is such a place.
+fn store_u32(words: &mut [u32], at: usize, w: u32) {
+    if at < words.len() {
+        words[at] = w;
+    }
+}
+
+// Stores a word into words, where there is such a place.
+fn store_u64(words: &mut [u64], at: usize, w: u64) {
+    if at < words.len() {
+        words[at] = w;
+    }
+}
+
+// Stores a word into `count` words from `from` on, as far as there are.
+fn fill(words: &mut [u64], from: usize, count: usize, w: u64) {
+    let mut i = from;
+    let mut left = count;
+    while left > 0 {
+        if i >= words.len() {
+            return;
+        }
+        words[i] = w;
+        i += 1;
+        left -= 1;
+    }
+}
+
+// A line that stores words.
+pub fn store(
+    table: &mut [u32; 64],
+    trees: &mut [u32; 200],
+    locals: &mut [u64; 256],
+    bits: &mut [u64; 6400],
+    s: Store,
+) {
+    match s {
+        Store::Pair { at, word } => store_u32(table, at, word),
+        Store::Entry { at, word } => store_u32(trees, at, word),
+        Store::Local { at, word } => store_u64(locals, at, word),
+        Store::Word { at, word } => store_u64(bits, at, word),
+        Store::Fill { from, count, word } => fill(bits, from, count, word),
+    }
+}
+
+// A length, at most another.
+fn at_most(n: usize, most: usize) -> usize
+    ensures { λ r. ⌜ r ≤ most ⌝ }
+{
+    if n < most {
+        return n;
+    }
+    most
+}
+
+// The trees of F frames, at most 200.
+fn exact_trees(frames: usize) -> usize
+    ensures { λ r. ⌜ r ≤ 200 ⌝ }
+{
+    if frames > 409600 {
+        return 200;
+    }
+    (frames + 2047) / 2048
+}
+
+// The tree words lent, of so many that there are.
+pub fn lent_trees(held: Held, most: usize) -> usize
+    ensures { λ r. ⌜ r ≤ most ⌝ }
+{
+    if held.trees > 0 {
+        return at_most(held.trees - 1, most);
+    }
+    let h = held.h;
+    at_most(exact_trees(h.frames), most)
+}
+
+// The local words lent, of so many that there are.
+pub fn lent_locals(held: Held, most: usize) -> usize
+    ensures { λ r. ⌜ r ≤ most ⌝ }
+{
+    if held.locals > 0 {
+        return at_most(held.locals - 1, most);
+    }
+    at_most(words::first_slot(held.h, 8), most)
+}
+
+// The bitmap words lent, of so many that there are.
+pub fn lent_bits(held: Held, most: usize) -> usize
+    ensures { λ r. ⌜ r ≤ most ⌝ }
+{
+    if held.bits > 0 {
+        return at_most(held.bits - 1, most);
+    }
+    let h = held.h;
+    at_most(32 * exact_trees(h.frames), most)
+}
+
+// A call, on the words lent to it.
+fn call_on(
+    held: Held,
+    table: &[u32; 64],
+    trees: &mut [u32],
+    locals: &mut [u64],
+    bits: &mut [u64],
+    c: Call,
+) -> Answered {
+    let h = held.h;
+    match c {
+        Call::Start(all_free) => {
+            Answered::Start(llfree::start(h, table, trees, locals, bits, all_free))
+        }
+        Call::Get { name, q } => {
+            Answered::Get(llfree::get(h, table, trees, locals, bits, name, q))
+        }
+        Call::Put { frame, q } => {
+            Answered::Put(llfree::put(h, table, trees, locals, bits, frame, q))
+        }
+        Call::Drain => Answered::Drain(llfree::drain(h, table, trees, locals, bits)),
+        Call::Stats => {
+            Answered::Stats(statistics::tell(h, table, trees, locals, bits, held.rows))
+        }
+    }
+}
+
+// A call, with the lengths lent from now on.
+pub fn call(
+    held: Held,
+    table: &[u32; 64],
+    trees: &mut [u32],
+    locals: &mut [u64],
+    bits: &mut [u64],
+    c: Call,
+) -> Answered {
+    let t = lent_trees(held, trees.len());
+    let l = lent_locals(held, locals.len());
+    let b = lent_bits(held, bits.len());
+    call_on(
+        held,
+        table,
+        &mut trees[0..t],
+        &mut locals[0..l],
+        &mut bits[0..b],
+        c,
+    )
+}

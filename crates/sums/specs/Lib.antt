@@ -1,0 +1,2 @@
+-- the sum of words
+pub mod Fnv

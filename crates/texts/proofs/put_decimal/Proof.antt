@@ -1,0 +1,45 @@
+-- `texts::put_decimal` meets its contract. Assumes nothing.
+use mathlib.Core.Path.{_≡_, refl, sym, ap, _∙_}
+use Prim.Native.Nat.{ℕ, _-_, _≤_}
+use native.Mathlib.Omega.{arith}
+use Rattle.texts.specs.Text.{text, write}
+use Rattle.texts.specs.Numbers.{decimal-is}
+use borrow.Author.Needs.{needs}
+use Rattle.texts.proofs.put_decimal.Statement.{statement}
+use Rattle.texts.proofs.put_decimal.Tie as tie
+use Rattle.texts.proofs.put_decimal.Reads as reads
+use Rattle.texts.proofs.put_decimal.Lts as lts
+use Rattle.io.proofs.decimal.Reads as decimal-reads
+use Rattle.texts.proofs.append.Reads as append-reads
+
+decimal-requires : tie.Need-decimal-requires
+decimal-requires c κs = search needs
+
+array-share-prefix-digits : tie.Need-array-share-prefix-digits
+array-share-prefix-digits c = search needs
+
+slice-aggregate-append : tie.Need-slice-aggregate-append
+slice-aggregate-append c = search needs
+
+append-requires : tie.Need-append-requires
+append-requires c κs = search needs
+
+same-length : tie.Need-same-length
+same-length c = search needs
+
+returns : tie.Need-returns
+returns c =
+    let a = c .before .before .before .before .before .before .before .before .args in
+    let d = c .before .before .before .before .before .decimal in
+    c .before .before .append .ensures ∙ ap (write (text (a .out .now) (a .at))) (d .ensures .1 .1 ∙ decimal-is (a .n) (d .result) (d .ensures .1 .0) (omega arith))
+
+pub put-decimal-spec : {M : Type 1} → statement M
+put-decimal-spec =
+    tie.close
+    (tie.spec
+    decimal-requires
+    array-share-prefix-digits
+    slice-aggregate-append
+    append-requires
+    same-length
+    returns)

@@ -1,0 +1,3 @@
+-- a text in a buffer; numbers as text
+pub mod Text
+pub mod Numbers
