@@ -92,7 +92,7 @@ enum llfree_kind { LLFREE_INVALID = 0, LLFREE_STEAL = 1, LLFREE_DEMOTE = 2, LLFR
 struct llfree_reply {
     uint64_t number; /* Done, Broken, Order, Bounds, Misaligned, Class, Local, Memory or Stuck */
     uint64_t frame;  /* the block's first frame */
-    uint64_t class_; /* the class that pays */
+    uint64_t class_; /* the class answered: the payer's by a steal from a local, the entry's after a steal from an entry, else the requested one */
     uint64_t looks;  /* entries read by walks */
     uint64_t tries;  /* lower calls; a get refused before the routes reports 0 and 0 */
 };

@@ -2,3 +2,5 @@
 pub mod Ways
 -- the bounds
 pub mod Counts
+-- when Memory is answered
+pub mod Missed

@@ -9,12 +9,11 @@ use ways::Reply;
 ghost use mathlib.Core.Path.{_≡_};
 ghost use mathlib.Core.List.{List};
 ghost use Prim.Native.Nat.{ℕ};
-ghost use Rattle.rules.specs.Words.{config};
 ghost use Rattle.ways.specs.State.{st};
-ghost use Rattle.ways.specs.Calls.{telling, fresh, toldGet, start, get, put, drain};
-ghost use Rattle.statistics.specs.Report.{reportOf};
+ghost use Rattle.ways.specs.Calls.{telling, toldGet};
+ghost use Rattle.ways.specs.Promises.{words};
 ghost use Rattle.ffi.specs.Args.{nameOf, givenOf, asking};
-ghost use Rattle.ffi.specs.Figures.{figuresOf};
+ghost use Rattle.ffi.specs.Promises.{StartNumber, GetAnswer, PutNumber, DrainNumber, FiguresAnswer};
 
 // What a get answers: the number, the frame and the class (0 and 0 where it is refused), and the counts.
 #[repr(C)]
@@ -99,8 +98,8 @@ pub extern "C" fn llfree_start(
     bits: &mut [u64],
     free: bool,
 ) -> usize
-    ensures { λ r. ⌜ telling r 0 0 (fresh (now (trees .exit)) (now (locals .exit)) (now (bits .exit)))
-        ≡ start (config h (now (table .entry))) free (now (trees .entry)) (now (locals .entry)) (now (bits .entry)) ⌝ }
+    ensures { λ r. ⌜ StartNumber h (now (table .entry)) free (words (now (trees .entry)) (now (locals .entry)) (now (bits .entry)))
+        r (words (now (trees .exit)) (now (locals .exit)) (now (bits .exit))) ⌝ }
 {
     numbers::number(llfree::start(h, table, trees, locals, bits, free))
 }
@@ -120,8 +119,8 @@ pub extern "C" fn llfree_get(
     given: bool,
     local: usize,
 ) -> Answer
-    ensures { λ r. ⌜ telling (r .number) (r .frame) (r .class) (st (now (trees .exit)) (now (locals .exit)) (now (bits .exit)) (r .looks) (r .tries))
-        ≡ get (config h (now (table .entry))) (asking order class given local) (nameOf named frame) (now (trees .entry)) (now (locals .entry)) (now (bits .entry)) ⌝ }
+    ensures { λ r. ⌜ GetAnswer h (now (table .entry)) (nameOf named frame) (asking order class given local) (words (now (trees .entry)) (now (locals .entry)) (now (bits .entry)))
+        r (words (now (trees .exit)) (now (locals .exit)) (now (bits .exit))) ⌝ }
 {
     let name = name_of(named, frame);
     let q = ask(order, class, given, local);
@@ -142,8 +141,8 @@ pub extern "C" fn llfree_put(
     given: bool,
     local: usize,
 ) -> usize
-    ensures { λ r. ⌜ telling r 0 0 (fresh (now (trees .exit)) (now (locals .exit)) (now (bits .exit)))
-        ≡ put (config h (now (table .entry))) (asking order class given local) frame (now (trees .entry)) (now (locals .entry)) (now (bits .entry)) ⌝ }
+    ensures { λ r. ⌜ PutNumber h (now (table .entry)) frame (asking order class given local) (words (now (trees .entry)) (now (locals .entry)) (now (bits .entry)))
+        r (words (now (trees .exit)) (now (locals .exit)) (now (bits .exit))) ⌝ }
 {
     let q = ask(order, class, given, local);
     numbers::number(llfree::put(h, table, trees, locals, bits, frame, q))
@@ -158,8 +157,8 @@ pub extern "C" fn llfree_drain(
     locals: &mut [u64],
     bits: &mut [u64],
 ) -> usize
-    ensures { λ r. ⌜ telling r 0 0 (fresh (now (trees .exit)) (now (locals .exit)) (now (bits .exit)))
-        ≡ drain (config h (now (table .entry))) (now (trees .entry)) (now (locals .entry)) (now (bits .entry)) ⌝ }
+    ensures { λ r. ⌜ DrainNumber h (now (table .entry)) (words (now (trees .entry)) (now (locals .entry)) (now (bits .entry)))
+        r (words (now (trees .exit)) (now (locals .exit)) (now (bits .exit))) ⌝ }
 {
     numbers::number(llfree::drain(h, table, trees, locals, bits))
 }
@@ -174,7 +173,7 @@ pub extern "C" fn llfree_figures<'a>(
     bits: &'a [u64],
     rows: usize,
 ) -> Figures
-    ensures { λ r. ⌜ r ≡ figuresOf (reportOf (config h (now (table .entry))) (now (trees .entry)) (now (locals .entry)) (now (bits .entry)) rows) ⌝ }
+    ensures { λ r. ⌜ FiguresAnswer h (now (table .entry)) (words (now (trees .entry)) (now (locals .entry)) (now (bits .entry))) rows r ⌝ }
 {
     let told = statistics::tell(h, table, trees, locals, bits, rows);
     let totals = told.totals;

@@ -3,13 +3,14 @@ use mathlib.Core.Path.{_≡_, refl, sym, ap, _∙_, subst}
 use mathlib.Core.Bool.{true, false}
 use mathlib.Core.Logic.{_≢_, _⊎_, inl, inr, ⊎-elim}
 use mathlib.Core.List.{List}
-use Prim.Native.Nat.{ℕ, _<_, _≤_}
+use Prim.Native.Nat.{ℕ, _^_, _<_, _≤_}
 use native.Mathlib.Omega.{arith}
+use native.Mathlib.Decide.{decLt}
 use lib.Dec.{ltb}
-use lib.ListN.{length, getD}
+use lib.ListN.{length, getD, List·getD-eq-default}
 use borrow.Author.Tests.{ltb-true, ltb-false}
 use Rattle.rules.specs.Base.{out}
-use Rattle.rules.specs.Words.{Config, trees, localsOf, slot, localOf, entryAt, localAt}
+use Rattle.rules.specs.Words.{Config, trees, localsOf, slot, treeOf, localOf, entryAt, localAt}
 use Rattle.rules.specs.Policy.{kindAt}
 use Rattle.rules.specs.declared.Name.the-variants.{Any}
 use Rattle.rules.specs.declared.Given.{Given}
@@ -34,6 +35,7 @@ use Rattle.moves.specs.Here.{holds-none}
 use Rattle.keeps.specs.Fine.{Asks}
 use Rattle.keeps_calls.specs.Asked.{accepts, asks}
 use Rattle.keeps_calls.specs.Calls.{get-keeps, drain-keeps}
+use Rattle.standing_laws.specs.Standing.{TreeWords, test-kept, kept-test}
 use Rattle.reach.specs.Reach.{Lends, OwnAsked, Reachable, Unreachable}
 use Rattle.reach.specs.Ends.{Ends, ends-map, else-ends}
 use Rattle.reach.specs.Walks.{NoTree, searchAndSteal-ends, searchAndReserve-ends}
@@ -119,7 +121,12 @@ close-settled c k given t l b (out Got.Missed s) E = inl (refl, (E .0, (ap (λ (
 close-settled c k given t l b (out (Got.MissedAt x) s) E = inl (refl, (E .0, (ap (λ (v : State). v .trees) (E .1), (ap (λ (v : State). v .locals) (E .1), ap (λ (v : State). v .bits) (E .1)))))
 close-settled c k given t l b (out Got.Stuck s) E = inr (λ n. omega (arith, n), E)
 
-module _ (c : Config) (sz : Size (c .order)) (t l b : List ℕ) (S : standing c t l b ≡ true) (K : Kept c t l b) (q : Request) (single : q .order ≡ 0) (fit : refusal c q 0 ≡ 0) where
+-- on words that pass the state test, tree words being words of 32 bits
+module _ (c : Config) (sz : Size (c .order)) (t l b : List ℕ) (w : TreeWords t) (S : standing c t l b ≡ true) (q : Request) (single : q .order ≡ 0) (fit : refusal c q 0 ≡ 0) where
+  -- they keep the rules
+  K : Kept c t l b
+  K = test-kept c sz t l b w S
+
   settled : Settled c (q .class) (q .local) t l b (get c q Any t l b)
   unfolding get frameOf
   settled =
@@ -151,6 +158,15 @@ module _ (c : Config) (sz : Size (c .order)) (t l b : List ℕ) (S : standing c 
 abbrev pub FreeTreesInvalid : Config → List ℕ → ℕ → Type 0
 FreeTreesInvalid c ts k = (t : ℕ) → t < trees c → 0 < entryAt ts t .free → kindAt c k (entryAt ts t .class) ≡ 0
 
+-- the tree words of a state that keeps the rules have 32 bits
+pub kept-words : (c : Config) (ts ls bs : List ℕ) → Kept c ts ls bs → TreeWords ts
+unfolding treeOf
+kept-words c ts ls bs K t = go (decLt t (trees c))
+  where
+    go : Dec (t < trees c) → getD ts t 0 < 2 ^ 32
+    go (yes l) = omega (arith, K .class t l .0)
+    go (no l) = (let e : getD ts t 0 ≡ 0 = List·getD-eq-default ts 0 (omega (arith, K .treeWords)) in omega (arith, e))
+
 module _ (c : Config) (ts ls bs : List ℕ) (K : Kept c ts ls bs) (absent : (j : ℕ) → getD ls j 0 ≡ 0) where
   -- no local is present, no entry reserved
   pub none-present : (j : ℕ) → localAt ls j .present ≡ false
@@ -169,12 +185,11 @@ module _ (c : Config) (ts ls bs : List ℕ) (K : Kept c ts ls bs) (absent : (j :
   )
 
 -- directly after a drain an otherwise valid get of one frame with no name is refused with Memory exactly if every tree whose entry has a free frame is Invalid for its class
-pub after-drain : (c : Config) → Size (c .order) → (t l b : List ℕ) → standing c t l b ≡ true → Kept c t l b
-    → standing c (drain c t l b .trees) (drain c t l b .locals) (drain c t l b .bits) ≡ true → (q : Request) → q .order ≡ 0 → refusal c q 0 ≡ 0
+pub after-drain : (c : Config) → Size (c .order) → (t l b : List ℕ) → TreeWords t → standing c t l b ≡ true → (q : Request) → q .order ≡ 0 → refusal c q 0 ≡ 0
     → (get c q Any (drain c t l b .trees) (drain c t l b .locals) (drain c t l b .bits) .number ≡ 7 → FreeTreesInvalid c (drain c t l b .trees) (q .class))
     × (FreeTreesInvalid c (drain c t l b .trees) (q .class) → get c q Any (drain c t l b .trees) (drain c t l b .locals) (drain c t l b .bits) .number ≡ 7)
-after-drain c sz t l b S K S2 q single fit =
-    let D = drain-keeps c t l b sz S K in
-    let M = memory-exactly c sz (drain c t l b .trees) (drain c t l b .locals) (drain c t l b .bits) S2 (D .kept) q single fit in
+after-drain c sz t l b w S q single fit =
+    let D = drain-keeps c t l b sz S (test-kept c sz t l b w S) in
+    let M = memory-exactly c sz (drain c t l b .trees) (drain c t l b .locals) (drain c t l b .bits) (kept-words c _ _ _ (D .kept)) (kept-test c sz _ _ _ (D .kept)) q single fit in
     let O = only-entries c (drain c t l b .trees) (drain c t l b .locals) (drain c t l b .bits) (D .kept) (D .absent) (q .class) (q .local) in
     ((λ n. O .0 (M .0 n)), (λ F. M .1 (O .1 F)))

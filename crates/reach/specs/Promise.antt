@@ -18,7 +18,7 @@ use Rattle.ways.specs.Standing.{standing}
 use Rattle.ways.specs.Calls.{Told, numberOf, tellGet, refusal}
 use Rattle.ways.specs.Promises.{Words, GetPromise}
 use Rattle.word_laws.specs.Sizes.{size-eleven}
-use Rattle.hand.specs.Hand.{Kept}
+use Rattle.standing_laws.specs.Standing.{TreeWords}
 use Rattle.reach.specs.Reach.{Unreachable}
 use Rattle.reach.specs.Memory.{memory-exactly}
 
@@ -48,10 +48,10 @@ memory-told g s e = rw e
 
 -- the code's get of one frame with no name answers Memory exactly if nothing reachable has a free frame
 pub promise-memory : (h : Header) (pairs : List ℕ) (q : Request) (s : Words) (r : Reply) (e : Words) → GetPromise h pairs Any q s r e
-    → standing (config h pairs) (s .trees) (s .locals) (s .bits) ≡ true → Kept (config h pairs) (s .trees) (s .locals) (s .bits) → q .order ≡ 0 → refusal (config h pairs) q 0 ≡ 0
+    → TreeWords (s .trees) → standing (config h pairs) (s .trees) (s .locals) (s .bits) ≡ true → q .order ≡ 0 → refusal (config h pairs) q 0 ≡ 0
     → (r .granted ≡ Granted.Refused Refusal.Memory → Unreachable (config h pairs) (s .trees) (s .locals) (q .class) (q .local))
     × (Unreachable (config h pairs) (s .trees) (s .locals) (q .class) (q .local) → r .granted ≡ Granted.Refused Refusal.Memory)
-promise-memory h pairs q s r e p S K single fit =
+promise-memory h pairs q s r e p w S single fit =
     let after : State = st (e .trees) (e .locals) (e .bits) (r .looks) (r .tries) in
-    let M = memory-exactly (config h pairs) size-eleven (s .trees) (s .locals) (s .bits) S K q single fit in
+    let M = memory-exactly (config h pairs) size-eleven (s .trees) (s .locals) (s .bits) w S q single fit in
     ((λ g. M .0 (sym (ap (λ (x : Told). x .number) p) ∙ memory-told (r .granted) after g)), (λ U. told-memory (r .granted) after (ap (λ (x : Told). x .number) p ∙ M .1 U)))

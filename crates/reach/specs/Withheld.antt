@@ -22,10 +22,11 @@ use Rattle.word_laws.specs.Sizes.{Size}
 use Rattle.policy_laws.specs.All.{by, true-false}
 use Rattle.hand.specs.Hand.{Kept}
 use Rattle.keeps_calls.specs.Calls.{drain-keeps}
+use Rattle.standing_laws.specs.Standing.{TreeWords, test-kept, kept-test}
 use Rattle.truth.specs.Sums.{sum-slots}
 use Rattle.truth.specs.Truth.{freeFrames, own-free, total-free}
 use Rattle.reach.specs.Reach.{Lends, Unreachable}
-use Rattle.reach.specs.Memory.{memory-exactly, none-present, none-reserved}
+use Rattle.reach.specs.Memory.{memory-exactly, kept-words, none-present, none-reserved}
 
 -- Lends as a test
 unfoldable pub lends : Config → ℕ → ℕ → Bool
@@ -49,16 +50,20 @@ withheld c ts ls k =
     sum (λ t. pick (entryAt ts t .reserved) (entryAt ts t .free) (pick (eqb (kindAt c k (entryAt ts t .class)) 0) (entryAt ts t .free) 0)) 0 (trees c)
     + sum (λ e. pick (lends c k e) 0 (localFree c ls e)) 0 8
 
-module _ (c : Config) (sz : Size (c .order)) (ts ls bs : List ℕ) (K : Kept c ts ls bs) where
+module _ (c : Config) (sz : Size (c .order)) (ts ls bs : List ℕ) (w : TreeWords ts) (S : standing c ts ls bs ≡ true) where
+  -- the words keep the rules
+  K : Kept c ts ls bs
+  K = test-kept c sz ts ls bs w S
+
   -- a local is empty if it is so where it is present
   empty-local : (j : ℕ) → (localAt ls j .present ≡ true → localAt ls j .free ≡ 0) → localAt ls j .free ≡ 0
-  empty-local j f = by (localAt ls j .present) f (λ p. sym (own-free c sz ts ls bs K j) ∙ ap (λ (b : Bool). pick b (localAt ls j .free) 0) p)
+  empty-local j f = by (localAt ls j .present) f (λ p. sym (own-free c sz ts ls bs w S j) ∙ ap (λ (b : Bool). pick b (localAt ls j .free) 0) p)
 
   -- where nothing is reachable, every free frame is withheld
   pub all-withheld : (k : ℕ) (given : Given) → Unreachable c ts ls k given → freeFrames bs (c .frames) ≡ withheld c ts ls k
   unfolding withheld totalFree localFree localCount
   all-withheld k given U =
-      sym (total-free c sz ts ls bs K)
+      sym (total-free c sz ts ls bs w S)
       ∙ ap₂ (λ (x y : ℕ). x + y)
       (sum-ext _ _ 0 (trees c) (λ t a b. at t (omega arith) (entryAt ts t .reserved) refl (eqb (kindAt c k (entryAt ts t .class)) 0) refl))
       (sym (sum-slots (c .places) (λ j. localAt ls j .free) 8) ∙ sum-ext _ _ 0 8 (λ e a b. class e (omega arith) (lends c k e) refl))
@@ -79,7 +84,7 @@ module _ (c : Config) (sz : Size (c .order)) (ts ls bs : List ℕ) (K : Kept c t
   -- with no reservation and no Invalid class nothing is withheld
   pub none-withheld : (k : ℕ) → ((t : ℕ) → t < trees c → entryAt ts t .reserved ≡ false) → ((j : ℕ) → localAt ls j .present ≡ false) → ((e : ℕ) → Configured c e → 0 < kindAt c k e) → withheld c ts ls k ≡ 0
   unfolding withheld localFree
-  none-withheld k u w v =
+  none-withheld k u p v =
       ap₂ (λ (x y : ℕ). x + y)
       (sum-zero (λ t. pick (entryAt ts t .reserved) (entryAt ts t .free) (pick (eqb (kindAt c k (entryAt ts t .class)) 0) (entryAt ts t .free) 0)) 0 (trees c)
       (λ t a b.
@@ -89,22 +94,23 @@ module _ (c : Config) (sz : Size (c .order)) (ts ls bs : List ℕ) (K : Kept c t
     where
       class : (e : ℕ) (x : Bool) → _≡_ {A = ℕ} (pick x 0 (sum (λ i. localAt ls (slot (c .places) e i) .free) 0 (localsOf (c .places) e))) 0
       class e true = refl
-      class e false = sum-zero (λ i. localAt ls (slot (c .places) e i) .free) 0 (localsOf (c .places) e) (λ i a b. empty-local (slot (c .places) e i) (λ p. true-false p (w (slot (c .places) e i))))
+      class e false = sum-zero (λ i. localAt ls (slot (c .places) e i) .free) 0 (localsOf (c .places) e) (λ i a b. empty-local (slot (c .places) e i) (λ a. true-false a (p (slot (c .places) e i))))
 
 -- a get of one frame that is refused with Memory: every free frame below F is withheld from its class
-pub memory-withheld : (c : Config) → Size (c .order) → (t l b : List ℕ) → standing c t l b ≡ true → Kept c t l b → (q : Request) → q .order ≡ 0 → refusal c q 0 ≡ 0
+pub memory-withheld : (c : Config) → Size (c .order) → (t l b : List ℕ) → TreeWords t → standing c t l b ≡ true → (q : Request) → q .order ≡ 0 → refusal c q 0 ≡ 0
     → get c q Any t l b .number ≡ 7 → freeFrames b (c .frames) ≡ withheld c t l (q .class)
-memory-withheld c sz t l b S K q single fit n = all-withheld c sz t l b K (q .class) (q .local) (memory-exactly c sz t l b S K q single fit .0 n)
+memory-withheld c sz t l b w S q single fit n = all-withheld c sz t l b w S (q .class) (q .local) (memory-exactly c sz t l b w S q single fit .0 n)
 
 -- directly after a drain, where no class is Invalid for the request's: it is refused with Memory only if no frame below F is free
-pub drained-full : (c : Config) → Size (c .order) → (t l b : List ℕ) → standing c t l b ≡ true → Kept c t l b
-    → standing c (drain c t l b .trees) (drain c t l b .locals) (drain c t l b .bits) ≡ true → (q : Request) → q .order ≡ 0 → refusal c q 0 ≡ 0
+pub drained-full : (c : Config) → Size (c .order) → (t l b : List ℕ) → TreeWords t → standing c t l b ≡ true → (q : Request) → q .order ≡ 0 → refusal c q 0 ≡ 0
     → ((e : ℕ) → Configured c e → 0 < kindAt c (q .class) e)
     → get c q Any (drain c t l b .trees) (drain c t l b .locals) (drain c t l b .bits) .number ≡ 7 → freeFrames b (c .frames) ≡ 0
-drained-full c sz t l b S K S2 q single fit v n =
-    let D = drain-keeps c t l b sz S K in
+drained-full c sz t l b w S q single fit v n =
+    let D = drain-keeps c t l b sz S (test-kept c sz t l b w S) in
+    let w2 = kept-words c _ _ _ (D .kept) in
+    let S2 = kept-test c sz _ _ _ (D .kept) in
     ap (λ (x : List ℕ). freeFrames x (c .frames)) (sym (D .bits))
-    ∙ memory-withheld c sz (drain c t l b .trees) (drain c t l b .locals) (drain c t l b .bits) S2 (D .kept) q single fit n
-    ∙ none-withheld c sz (drain c t l b .trees) (drain c t l b .locals) (drain c t l b .bits) (D .kept) (q .class)
+    ∙ memory-withheld c sz (drain c t l b .trees) (drain c t l b .locals) (drain c t l b .bits) w2 S2 q single fit n
+    ∙ none-withheld c sz (drain c t l b .trees) (drain c t l b .locals) (drain c t l b .bits) w2 S2 (q .class)
     (none-reserved c (drain c t l b .trees) (drain c t l b .locals) (drain c t l b .bits) (D .kept) (D .absent))
     (none-present c (drain c t l b .trees) (drain c t l b .locals) (drain c t l b .bits) (D .kept) (D .absent)) v

@@ -190,8 +190,16 @@ FromStanding = (h : Header) (pairs : List ℕ) (s e : Words) (xs : List Step)
     → NoRestart xs → Chain h pairs xs s e
     → (NoneBroken xs × NoneStuck xs) × (standing (config h pairs) (e .trees) (e .locals) (e .bits) ≡ true)
 
--- from any words: Done and Memory leave them as the rules say, Stuck as the step before left them, all others unchanged
+-- the tally rows that statistics are lent are as they were; no other call is lent rows
+abbrev pub RowsLeft : Step → Type 0
+RowsLeft (counts rows r filled) = filled ≡ rows
+RowsLeft (gets name q r) = Unit {0}
+RowsLeft (puts f q r) = Unit {0}
+RowsLeft (drains r) = Unit {0}
+RowsLeft (starts h pairs allFree r) = Unit {0}
+
+-- from any words: Done and Memory leave them as the rules say, Stuck as the step before left them, all others unchanged, lent rows too
 abbrev pub OthersUnchanged : Type 0
 OthersUnchanged = (h : Header) (pairs : List ℕ) (x : Step) (s e : Words)
     → Promised h pairs x s e → (number x ≡ 0 → ⊥) → (number x ≡ 7 → ⊥) → (number x ≡ 9 → ⊥)
-    → e ≡ s
+    → (e ≡ s) × RowsLeft x

@@ -1,10 +1,11 @@
--- A call that is not Done, Memory or Stuck leaves the words, whatever they are. Assumes nothing.
-use mathlib.Core.Path.{_≡_, refl, sym, subst}
+-- A call that is not Done, Memory or Stuck leaves the words, whatever they are, and the tally rows. Assumes nothing.
+use mathlib.Core.Path.{_≡_, refl, sym, ap, _∙_, subst}
 use mathlib.Core.Bool.{Bool, true, false}
 use mathlib.Core.Logic.{_≢_}
 use mathlib.Core.List.{List}
 use Prim.Native.Nat.{ℕ, _/_, _^_}
 use lib.Dec.{eqb}
+use lib.ListN.{length}
 use Rattle.rules.specs.Base.{pick, both, Out, out}
 use Rattle.rules.specs.Words.{Config, config, treeFrames}
 use Rattle.rules.specs.Policy.{accepted}
@@ -18,13 +19,15 @@ use Rattle.ways.specs.declared.Granted.the-variants as Granted
 use Rattle.ways.specs.declared.Got.the-variants as Got
 use Rattle.ways.specs.State.{State, Way, st, withBits}
 use Rattle.ways.specs.Get.{routes}
-use Rattle.ways.specs.Standing.{lengthsExact}
+use Rattle.ways.specs.declared.Tally.{Tally}
+use Rattle.ways.specs.Standing.{lengthsExact, standing}
 use Rattle.ways.specs.Calls.{Told, fresh, outcomeOf, told, tellGet, refusal, frameOf, close, get, onGiven, putTo, put, drainClasses, closeDrain, drain, start}
+use Rattle.ways.specs.Statistics.{Report, statistics}
 use Rattle.ways.specs.Promises.{Words}
 use Rattle.step_laws.specs.Steps.{ifte-ind}
 use Rattle.step_laws.specs.Answers.{unless-ind, standing-ind}
 use Rattle.complete.specs.Complete.{same-words}
-use Rattle.sequence.specs.Demand.{Step, gets, puts, drains, counts, starts, Promised, number, numberGot}
+use Rattle.sequence.specs.Demand.{Step, gets, puts, drains, counts, starts, Promised, number, numberGot, RowsLeft}
 
 -- what a call that is not Done, Memory or Stuck tells has the words t, l and b
 abbrev Left : List ℕ → List ℕ → List ℕ → Told → Type 0
@@ -101,3 +104,20 @@ step-left h pairs (drains r) s e P = told-left r s e (drain (config h pairs) (s 
 step-left h pairs (counts rows r filled) s e P = λ x y z. P .1
 step-left h pairs (starts d table allFree r) s e P =
     told-left r s e (start (config d table) allFree (s .trees) (s .locals) (s .bits)) P (start-left (config d table) (s .trees) (s .locals) (s .bits) allFree)
+
+-- statistics that are refused leave the rows
+rows-as-lent : (c : Config) (ts ls bs : List ℕ) (rows : List Tally) → statistics c ts ls bs rows .number ≢ 0 → statistics c ts ls bs rows .rows ≡ rows
+unfolding statistics
+rows-as-lent c ts ls bs rows =
+    ifte-ind (λ (r : Report). r .number ≢ 0 → r .rows ≡ rows) (standing c ts ls bs) _ _
+    (λ _. ifte-ind (λ (r : Report). r .number ≢ 0 → r .rows ≡ rows) (eqb (length rows) 8) _ _ (λ _ x. absurd (x refl)) (λ _ x. refl))
+    (λ _ x. refl)
+
+pub rows-left : (h : Header) (pairs : List ℕ) (x : Step) (s e : Words) → Promised h pairs x s e → number x ≢ 0 → RowsLeft x
+unfolding number
+rows-left h pairs (gets name q r) s e P x = tt
+rows-left h pairs (puts f q r) s e P x = tt
+rows-left h pairs (drains r) s e P x = tt
+rows-left h pairs (counts rows r filled) s e P x =
+    ap (λ (y : Report). y .rows) (P .0) ∙ rows-as-lent (config h pairs) (s .trees) (s .locals) (s .bits) rows (λ z. x (ap (λ (y : Report). y .number) (P .0) ∙ z))
+rows-left h pairs (starts d table allFree r) s e P x = tt

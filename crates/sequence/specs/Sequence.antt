@@ -19,7 +19,7 @@ use Rattle.hand.specs.Hand.{Kept}
 use Rattle.standing_laws.specs.Standing.{kept-test, test-kept}
 use Rattle.sequence.specs.Demand.{Step, gets, puts, drains, counts, starts, Chain, number, NoRestart, handedOut, givenBack, heldAtStart, heldAfterGet, heldAfterPut, NoneTwice, NoneBroken, NoneStuck, Demand3, Sequence, NeverStuck, FromStanding, OthersUnchanged}
 use Rattle.sequence.specs.Blocks.{reservation-is}
-use Rattle.sequence.specs.Refused.{step-left}
+use Rattle.sequence.specs.Refused.{step-left, rows-left}
 use Rattle.sequence.specs.Steps.{Agreed, get-step, put-step, drain-step, count-step, refused-start, start-step}
 
 -- the whole chain, from words where the rules and the ledger agree
@@ -133,6 +133,6 @@ from-standing h pairs s e xs S w n C =
     let R = all-steps h pairs (λ x. eqb (bit (s .bits) x) 1) s xs e (record { kept = K; agree = λ x lt. as-held (bit (s .bits) x) (bit-le (s .bits) x) }) n C in
     ((R .unbroken, R .unstuck), kept-test (config h pairs) size-eleven (e .trees) (e .locals) (e .bits) (R .kept .1 .kept))
 
--- from any words: a call that is not Done, Memory or Stuck leaves them
+-- from any words: a call that is not Done, Memory or Stuck leaves them, and the tally rows
 pub others-unchanged : OthersUnchanged
-others-unchanged = step-left
+others-unchanged h pairs x s e P a b d = (step-left h pairs x s e P a b d, rows-left h pairs x s e P a)

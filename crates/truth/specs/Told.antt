@@ -21,8 +21,8 @@ use Rattle.ways.specs.Promises.{Words, StatisticsPromise}
 use Rattle.lower_laws.specs.Sum.{sum-none, sum-one, sum-add}
 use Rattle.word_laws.specs.Sizes.{Size, size-eleven}
 use Rattle.policy_laws.specs.All.{true-false}
-use Rattle.hand.specs.Hand.{Kept}
 use Rattle.step_laws.specs.Steps.{ifte-ind}
+use Rattle.standing_laws.specs.Standing.{TreeWords}
 use Rattle.truth.specs.Truth.{freeFrames, total-free, rows-free, in-use-held}
 
 -- the free of all rows
@@ -63,25 +63,25 @@ pub record Truthful (c : Config) (ts ls bs : List ℕ) (r : Report) : Type 0 whe
   -- in use of a class: the frames of its trees whose bit is 1
   pub used : (k : ℕ) (d : Tally) → k < 8 → getD (r .rows) k d .used ≡ overClass c ts k (λ t. held bs (t * treeFrames (c .order)) (treeFrames (c .order)))
 
-pub statistics-true : (c : Config) → Size (c .order) → (ts ls bs : List ℕ) (rows : List Tally) → standing c ts ls bs ≡ true → Kept c ts ls bs → length rows ≡ 8
+pub statistics-true : (c : Config) → Size (c .order) → (ts ls bs : List ℕ) (rows : List Tally) → TreeWords ts → standing c ts ls bs ≡ true → length rows ≡ 8
     → Truthful c ts ls bs (statistics c ts ls bs rows)
 unfolding statistics tally
-statistics-true c sz ts ls bs rows S K e =
+statistics-true c sz ts ls bs rows w S e =
     ifte-ind (Truthful c ts ls bs) (standing c ts ls bs) _ _
     (λ _. ifte-ind (Truthful c ts ls bs) (eqb (length rows) 8) _ _
     (λ _. record {
       number = refl;
-      free = total-free c sz ts ls bs K;
+      free = total-free c sz ts ls bs w S;
       eight = tallies-length c ts ls 0 8;
-      rows = tallies-free c ts ls 0 8 ∙ rows-free c sz ts ls bs K ∙ total-free c sz ts ls bs K;
-      used = λ k d lt. (let z : 0 + k ≡ k = omega arith in ap (λ (x : Tally). x .used) (tally-at c ts ls 0 8 k d lt) ∙ ap (inUse c ts ls) z ∙ in-use-held c sz ts ls bs K k);
+      rows = tallies-free c ts ls 0 8 ∙ rows-free c sz ts ls bs w S ∙ total-free c sz ts ls bs w S;
+      used = λ k d lt. (let z : 0 + k ≡ k = omega arith in ap (λ (x : Tally). x .used) (tally-at c ts ls 0 8 k d lt) ∙ ap (inUse c ts ls) z ∙ in-use-held c sz ts ls bs w S k);
     })
     (λ f. true-false (eq-eqb _ _ e) f))
     (λ f. true-false S f)
 
 -- so does the answer that the promise of `statistics` allows
 pub promise-true : (h : Header) (pairs : List ℕ) (s : Words) (rows : List Tally) (r : Totals) (filled : List Tally) → StatisticsPromise h pairs s rows r filled
-    → standing (config h pairs) (s .trees) (s .locals) (s .bits) ≡ true → Kept (config h pairs) (s .trees) (s .locals) (s .bits) → length rows ≡ 8
+    → TreeWords (s .trees) → standing (config h pairs) (s .trees) (s .locals) (s .bits) ≡ true → length rows ≡ 8
     → Truthful (config h pairs) (s .trees) (s .locals) (s .bits) (reporting (outcomeOf (r .outcome)) (r .free) (r .trees) filled)
-promise-true h pairs s rows r filled p S K e =
-    subst (Truthful (config h pairs) (s .trees) (s .locals) (s .bits)) (sym p) (statistics-true (config h pairs) size-eleven (s .trees) (s .locals) (s .bits) rows S K e)
+promise-true h pairs s rows r filled p w S e =
+    subst (Truthful (config h pairs) (s .trees) (s .locals) (s .bits)) (sym p) (statistics-true (config h pairs) size-eleven (s .trees) (s .locals) (s .bits) rows w S e)

@@ -10,7 +10,7 @@ use lib.ListN.{length, getD}
 use Rattle.rules.specs.Base.{pick, sum}
 use Rattle.rules.specs.Words.{Config, treeFrames, trees, localsOf, slot, localCount, localOf, entryAt, localAt}
 use Rattle.rules.specs.Lower.{bit, held, clear}
-use Rattle.ways.specs.Standing.{treeOn}
+use Rattle.ways.specs.Standing.{treeOn, standing}
 use Rattle.ways.specs.Statistics.{overClass, entryFree, localFree, reservedFree, inUse, tally, totalFree}
 use Rattle.lower_laws.specs.Sum.{sum-ext}
 use Rattle.lower_laws.specs.Held.{bit-le, held-add}
@@ -19,6 +19,7 @@ use Rattle.lower_laws.specs.Clear.{clear-held}
 use Rattle.word_laws.specs.Sizes.{Size, count-frames, count-bits}
 use Rattle.word_laws.specs.Sums.{sum-plus, sum-swap}
 use Rattle.hand.specs.Hand.{share, shares, Kept}
+use Rattle.standing_laws.specs.Standing.{TreeWords, test-kept}
 use Rattle.truth.specs.Sums.{sum-slots, sum-share, pick-sum, over-plus, over-ext, over-times, over-all}
 
 -- how many of the first n frames are free: their bit is 0
@@ -48,7 +49,12 @@ unfolding sum
 sum-const m zero = omega arith
 sum-const m (suc n) = omega (arith, sum-const m n, suc-mul n m)
 
-module _ (c : Config) (sz : Size (c .order)) (ts ls bs : List ℕ) (K : Kept c ts ls bs) where
+-- of words that pass the state test, tree words being words of 32 bits
+module _ (c : Config) (sz : Size (c .order)) (ts ls bs : List ℕ) (w : TreeWords ts) (S : standing c ts ls bs ≡ true) where
+  -- they keep the rules
+  K : Kept c ts ls bs
+  K = test-kept c sz ts ls bs w S
+
   -- the clear bits of a tree are in its entry or in locals
   tree-free : (t : ℕ) → t < trees c → entryAt ts t .free + shares (c .order) t ls ≡ clear (c .order) bs t
   tree-free t lt = omega (arith, K .sum t lt, clear-held (c .order) bs t (sz .least))

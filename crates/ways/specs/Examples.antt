@@ -1,5 +1,5 @@
--- 01, Bench examples: E1 to E12 as a single table with a single claim, by computing the definitions; and further cases, with figures
--- that the Rust gave, for what E1 to E12 leave open. Assumes nothing.
+-- 01, Bench examples: E1 to E12 as a single table with a single claim, by computing the definitions; and further cases that refuse wrong
+-- definitions which E1 to E12 let pass, with figures that the Rust gave, or that 01's text gives where the Rust has no answer. More are in crate `cases`. Assumes nothing.
 use mathlib.Core.Path.{_≡_, refl}
 use mathlib.Core.Bool.{Bool, true, false}
 use mathlib.Core.List.{List, [], _∷_, _++_}
@@ -169,24 +169,9 @@ tableT5 f =
       pairs = 0x05000003 ∷ demote ∷ replicate 6 0 ++ steal ∷ match255 ∷ replicate 54 0;
     }
 
--- three classes with a local each, default 1: (0,0) as given, (1,1), (2,2) Match 255; (0,1) Demote; (0,2), (1,0) Steal
-abbrev pub three : ℕ → ℕ → Config
-three f own =
-    record {
-      order = 11;
-      frames = f;
-      default = 1;
-      places = 2 ∷ 2 ∷ 2 ∷ replicate 5 0;
-      pairs = own ∷ demote ∷ steal ∷ replicate 5 0 ++ steal ∷ match255 ∷ replicate 8 0 ++ match255 ∷ replicate 45 0;
-    }
-
 -- words in which every eighth frame is held: 1,792 frames of a tree are free, and no aligned block of eight
 abbrev pub combed : ℕ → List ℕ
 combed n = replicate n 0x0101010101010101
-
--- a tree with frames 0, 512, 1,024 and 1,536 held
-abbrev pub notched : List ℕ
-notched = 1 ∷ replicate 7 0 ++ 1 ∷ replicate 7 0 ++ 1 ∷ replicate 7 0 ++ 1 ∷ replicate 7 0
 
 -- an unnamed get without a local; with local 0
 abbrev pub anyone : ℕ → ℕ → Call
@@ -202,55 +187,17 @@ abbrev pub further : List Example
 further =
     -- a steal from a local answers that local's class, and keeps its row
     record { of = tableT 4096 1 1; calls = local0 0 0 ∷ anyone 11 1 ∷ anyone 6 1 ∷ []; figures = all5 ++ tree 1 ∷ local 0 ∷ []; wants = 0 ∷ 2112 ∷ 0 ∷ 2 ∷ 1 ∷ 0x10000000 ∷ 0x807bf00000000020 ∷ [] }
-    -- a demote moves the reservation, reduced, to the given local, and keeps its row; the entry keeps its class
-    ∷ record { of = tableT 4096 1 1; calls = local0 0 1 ∷ anyone 11 0 ∷ local0 6 0 ∷ []; figures = all5 ++ tree 1 ∷ local 0 ∷ local 1 ∷ []; wants = 0 ∷ 2112 ∷ 0 ∷ 5 ∷ 1 ∷ 0x30000000 ∷ 0x807bf00000000020 ∷ 0 ∷ [] }
-    -- a demote with no local unreserves it
-    ∷ record { of = tableT 4096 1 1; calls = local0 0 1 ∷ anyone 11 0 ∷ anyone 6 0 ∷ []; figures = all5 ++ tree 1 ∷ local 0 ∷ local 1 ∷ []; wants = 0 ∷ 2112 ∷ 0 ∷ 2 ∷ 1 ∷ 0x7bf ∷ 0 ∷ 0 ∷ [] }
-    -- an undone reservation does not restore the class
-    ∷ record { of = tableT 4096 1 1; calls = stands (0x200007FC ∷ 0x200007FC ∷ []) (0 ∷ 0 ∷ []) (notched ++ notched) ∷ local0 9 0 ∷ []; figures = all5 ++ tree 0 ∷ tree 1 ∷ local 0 ∷ []; wants = 7 ∷ 0 ∷ 0 ∷ 2 ∷ 2 ∷ 0x7fc ∷ 0x7fc ∷ 0 ∷ [] }
-    -- one payer only: the first local with enough; refused by the lower, its frames go to the entry
-    ∷ record { of = tableT 6144 2 1; calls = stands (0x10000000 ∷ 0x10000000 ∷ 0x20000000 ∷ []) (0x807FC00000000000 ∷ 0x8080000000000020 ∷ 0 ∷ 0 ∷ []) (notched ++ replicate 32 0 ++ heldWords 32) ∷ anyone 9 1 ∷ []; figures = all5 ++ tree 0 ∷ tree 1 ∷ local 0 ∷ local 1 ∷ []; wants = 7 ∷ 0 ∷ 0 ∷ 3 ∷ 1 ∷ 0x10000200 ∷ 0x10000000 ∷ 0x805fc00000000000 ∷ 0x8080000000000020 ∷ [] }
     -- a named frame in another tree: the own local is synced all the same, and keeps the frames
-    ∷ record { of = tableT 16384 2 1; calls = e1 ∷ holds 7 0x10000005 0 0x80000000000000E0 (heldWords 31 ++ 0x07ffffffffffffff ∷ []) ∷ asks 0 0 (Given.Local 0) (Frame 0) ∷ []; figures = all5 ++ tree 7 ∷ local 0 ∷ []; wants = 0 ∷ 0 ∷ 0 ∷ 0 ∷ 1 ∷ 0x10000000 ∷ 0x80005000000000e0 ∷ [] }
-    -- an entry put that fills a reserved tree sets the default class
-    ∷ record { of = tableT 12288 2 1; calls = local0 11 0 ∷ gives 11 0 Given.Nothing 0 ∷ []; figures = number ∷ tree 0 ∷ local 0 ∷ []; wants = 0 ∷ 0x30000800 ∷ 0x8000000000000000 ∷ [] }
+    ∷ record { of = tableT 4096 1 1; calls = stands (0x20000800 ∷ 0x10000005 ∷ []) (0x8000000000000020 ∷ 0 ∷ []) (replicate 32 0 ++ heldWords 31 ++ 0x07ffffffffffffff ∷ []) ∷ asks 0 0 (Given.Local 0) (Frame 0) ∷ []; figures = all5 ++ tree 1 ∷ local 0 ∷ []; wants = 0 ∷ 0 ∷ 0 ∷ 0 ∷ 1 ∷ 0x10000000 ∷ 0x8000500000000020 ∷ [] }
     -- locals not below n: the stealing search, and no reservation
     ∷ record { of = tableT 2048 1 1; calls = local0 0 1 ∷ []; figures = all5 ++ tree 0 ∷ local 1 ∷ []; wants = 0 ∷ 0 ∷ 1 ∷ 1 ∷ 1 ∷ 0x200007ff ∷ 0 ∷ [] }
-    -- the near walk comes twice to a tree at n = 2 and n = 3
-    ∷ record { of = tableT5 4096; calls = stands (1792 ∷ 1792 ∷ []) (0 ∷ 0 ∷ []) (combed 64) ∷ local0 3 0 ∷ []; figures = all5; wants = 7 ∷ 0 ∷ 0 ∷ 5 ∷ 5 ∷ [] }
-    ∷ record { of = tableT5 6144; calls = stands (1792 ∷ 1792 ∷ 1792 ∷ []) (0 ∷ 0 ∷ []) (combed 96) ∷ local0 3 0 ∷ []; figures = all5; wants = 7 ∷ 0 ∷ 0 ∷ 6 ∷ 6 ∷ [] }
     -- a full list admits no equal: the ninth tree, the only one with a block, is not tried
     ∷ record { of = tableT5 18432; calls = stands (replicate 4 1792 ++ 2047 ∷ replicate 4 1792) (0 ∷ 0 ∷ []) (combed 128 ++ 1 ∷ replicate 31 0 ++ combed 128) ∷ anyone 3 0 ∷ []; figures = all5; wants = 7 ∷ 0 ∷ 0 ∷ 9 ∷ 8 ∷ [] }
-    -- a present own reservation that failed gives its tree as the start: 12, rounded to 8
-    ∷ record { of = tableT 32768 2 1; calls = holds 12 0x10000000 0 0x8000000000000180 (heldWords 32) ∷ local0 0 0 ∷ []; figures = all5; wants = 0 ∷ 14336 ∷ 0 ∷ 3 ∷ 1 ∷ [] }
-    -- the start tree is (n / locals) × the local: 8
-    ∷ record { of = tableT 32768 2 1; calls = asks 0 0 (Given.Local 1) Any ∷ []; figures = all5; wants = 0 ∷ 14336 ∷ 0 ∷ 3 ∷ 1 ∷ [] }
-    -- the list: Match before Demote before Steal; of two Demotes the fully free one
-    ∷ record { of = three 8192 0x05000003; calls = stands (0x400007ff ∷ 0x200007ff ∷ 0x7ff ∷ 0x20000800 ∷ []) (replicate 3 0) (1 ∷ replicate 31 0 ++ 1 ∷ replicate 31 0 ++ 1 ∷ replicate 63 0) ∷ anyone 0 0 ∷ []; figures = all5; wants = 0 ∷ 4097 ∷ 0 ∷ 4 ∷ 1 ∷ [] }
-    ∷ record { of = three 8192 0x05000003; calls = stands (0x400007ff ∷ 0x200007ff ∷ 0x400007ff ∷ 0x20000800 ∷ []) (replicate 3 0) (1 ∷ replicate 31 0 ++ 1 ∷ replicate 31 0 ++ 1 ∷ replicate 63 0) ∷ anyone 0 0 ∷ []; figures = all5; wants = 0 ∷ 6144 ∷ 0 ∷ 4 ∷ 1 ∷ [] }
-    -- the cut is compared with the tree's own free: 2,040 is rated high, 1,000 low
-    ∷ record { of = three 8192 (3 + 4 * 2000 + 65536 * 1 + 16777216 * 200); calls = stands (1000 ∷ 2040 ∷ 0x40000000 ∷ 0x40000000 ∷ []) (replicate 3 0) (heldWords 16 ++ 0xffffff ∷ replicate 15 0 ++ 0xff ∷ replicate 31 0 ++ heldWords 64) ∷ anyone 0 0 ∷ []; figures = all5; wants = 0 ∷ 2056 ∷ 0 ∷ 4 ∷ 1 ∷ [] }
-    -- all held, then one frame given back
-    ∷ record { of = tableT 8192 1 1; calls = startsHeld ∷ gives 0 1 Given.Nothing 5 ∷ []; figures = number ∷ tree 0 ∷ tree 1 ∷ []; wants = 0 ∷ 0x20000001 ∷ 0x20000000 ∷ [] }
-    -- a drain of two classes
-    ∷ record { of = tableT 8192 1 1; calls = local0 0 0 ∷ local0 0 1 ∷ drains ∷ []; figures = number ∷ tree 0 ∷ tree 1 ∷ tree 3 ∷ local 0 ∷ local 1 ∷ []; wants = 0 ∷ 0x20000800 ∷ 0x200007ff ∷ 0x7ff ∷ 0 ∷ 0 ∷ [] }
-    -- a drain returns E1's reservation
-    ∷ record { of = tableT 16384 2 1; calls = e1 ∷ drains ∷ []; figures = number ∷ tree 7 ∷ local 0 ∷ []; wants = 0 ∷ 0x7FF ∷ 0 ∷ [] }
-    -- a put of a free frame is NotHeld
-    ∷ record { of = tableT 2048 1 1; calls = gives 0 1 Given.Nothing 0 ∷ []; figures = number ∷ tree 0 ∷ []; wants = 8 ∷ 0x20000800 ∷ [] }
-    -- class 2 is unconfigured, class 8 is none; class 0 has one local
-    ∷ record { of = tableT 2048 1 1; calls = anyone 0 2 ∷ []; figures = number ∷ []; wants = 5 ∷ [] }
-    ∷ record { of = tableT 2048 1 1; calls = anyone 0 8 ∷ []; figures = number ∷ []; wants = 5 ∷ [] }
-    ∷ record { of = tableT 2048 1 1; calls = asks 0 0 (Given.Local 1) Any ∷ []; figures = number ∷ []; wants = 6 ∷ [] }
-    -- Broken: an entry one short; bits past F clear; a present local on an unreserved tree; an absent local that is not 0;
-    -- a reserved entry without a holder; two locals on one tree; a pair that is not good
-    ∷ record { of = tableT 2048 1 1; calls = stands (0x200007FF ∷ []) (0 ∷ 0 ∷ []) (replicate 32 0) ∷ anyone 0 1 ∷ []; figures = number ∷ tree 0 ∷ []; wants = 1 ∷ 0x200007FF ∷ [] }
+    -- a present own reservation that failed gives its tree as the start: 8
+    ∷ record { of = tableT 18432 1 1; calls = holds 8 0x10000000 0 0x8000000000000100 (heldWords 32) ∷ local0 0 0 ∷ []; figures = all5; wants = 0 ∷ 14336 ∷ 0 ∷ 3 ∷ 1 ∷ [] }
+    -- Broken: bits past F clear; two locals on one tree
     ∷ record { of = tableT 2047 1 1; calls = stands (0x20000800 ∷ []) (0 ∷ 0 ∷ []) (replicate 32 0) ∷ anyone 0 1 ∷ []; figures = number ∷ []; wants = 1 ∷ [] }
-    ∷ record { of = tableT 4096 1 1; calls = stands (0x20000800 ∷ 0x30000800 ∷ []) (0x8000000000000000 ∷ 0 ∷ []) (replicate 64 0) ∷ anyone 0 1 ∷ []; figures = number ∷ []; wants = 1 ∷ [] }
-    ∷ record { of = tableT 2048 1 1; calls = stands (0x20000800 ∷ []) (5 ∷ 0 ∷ []) (replicate 32 0) ∷ anyone 0 1 ∷ []; figures = number ∷ []; wants = 1 ∷ [] }
-    ∷ record { of = tableT 2048 1 1; calls = stands (0x30000800 ∷ []) (0 ∷ 0 ∷ []) (replicate 32 0) ∷ anyone 0 1 ∷ []; figures = number ∷ []; wants = 1 ∷ [] }
     ∷ record { of = tableT 4096 2 1; calls = stands (0x10000000 ∷ 0x30000800 ∷ []) (0x8080000000000000 ∷ 0x8080000000000000 ∷ 0 ∷ 0 ∷ []) (replicate 64 0) ∷ anyone 0 1 ∷ []; figures = number ∷ []; wants = 1 ∷ [] }
-    ∷ record { of = tableT 2048 1 1; calls = stands (0x10000000 ∷ []) (0 ∷ 0x8080000000000000 ∷ []) (replicate 32 0) ∷ anyone 0 1 ∷ []; figures = number ∷ []; wants = 1 ∷ [] }
     ∷ []
 
 -- ---- statistics: number, total free, free trees, and of the rows of classes 0 and 1 free, allocated, in use

@@ -1,0 +1,1 @@
+// Worked cases of the definitions: in specs/. No function.
