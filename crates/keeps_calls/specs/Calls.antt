@@ -119,17 +119,6 @@ pub record StartKeeps (c : Config) (g : ℕ) (r : Told) : Type 0 where
 
 module _ (c : Config) (t l b : List ℕ) where
   -- ---- a state that fails the test, and a refused request: nothing changes
-  pub get-broken : (q : Request) (name : Name) → standing c t l b ≡ false → get c q name t l b ≡ telling 1 0 0 (fresh t l b)
-  unfolding get
-  get-broken q name e = standing-ind (λ (r : Told). r ≡ telling 1 0 0 (fresh t l b)) c (fresh t l b) _ (λ h. true-false h e) (λ _. refl)
-
-  pub put-broken : (q : Request) (f : ℕ) → standing c t l b ≡ false → put c q f t l b ≡ telling 1 0 0 (fresh t l b)
-  unfolding put
-  put-broken q f e = standing-ind (λ (r : Told). r ≡ telling 1 0 0 (fresh t l b)) c (fresh t l b) _ (λ h. true-false h e) (λ _. refl)
-
-  pub drain-broken : standing c t l b ≡ false → drain c t l b ≡ telling 1 0 0 (fresh t l b)
-  unfolding drain
-  drain-broken e = standing-ind (λ (r : Told). r ≡ telling 1 0 0 (fresh t l b)) c (fresh t l b) _ (λ h. true-false h e) (λ _. refl)
 
   pub get-refused : (q : Request) (name : Name) (n : ℕ) → standing c t l b ≡ true → refusal c q (frameOf name) ≡ suc n → get c q name t l b ≡ telling (suc n) 0 0 (fresh t l b)
   unfolding get

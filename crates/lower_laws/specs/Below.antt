@@ -27,9 +27,3 @@ module _ (ws : List ℕ) (o j f : ℕ) (b : Block ws o j) where
       omega arith))
       (λ l. l)
       (below-or f (j * 2 ^ o + 2 ^ o))
-
-  -- a block below f, held or released
-  pub past-keeps : (v : Bool) → j * 2 ^ o + 2 ^ o ≤ f → pastHeld (mark v ws o j) f ≡ pastHeld ws f
-  past-keeps v h =
-      let m : Marked v ws (mark v ws o j) (j * 2 ^ o) (2 ^ o) = marked v ws o j b in
-      rw (m .len, count-above v ws (mark v ws o j) (j * 2 ^ o) (2 ^ o) m f (length ws * 64 - f) h)

@@ -38,13 +38,6 @@ half-right ws o w i h ne b =
     let e : i * 2 ^ o + 2 ^ o ≤ length ws * 64 = b .inside in
     record { order = omega (arith, b .order); inside = omega (arith, d .0, d .1, p); small = b .small }
 
--- a block of order o in the block i of order z
-pub block-in : (ws : List ℕ) (z o i j : ℕ) → o ≤ z → Block ws z i → i * 2 ^ (z - o) ≤ j → j < i * 2 ^ (z - o) + 2 ^ (z - o) → Block ws o j
-block-in ws z o i j h b l m =
-    let n = inside z o i j h l m in
-    let e : i * 2 ^ z + 2 ^ z ≤ length ws * 64 = b .inside in
-    record { order = omega (arith, b .order); inside = omega (arith, n .high); small = b .small }
-
 -- the block of order o that holds a frame of the block of order z
 pub block-of : (ws : List ℕ) (z o f : ℕ) → o ≤ z → Block ws z (f / 2 ^ z) → Block ws o (f / 2 ^ o)
 block-of ws z o f h b =

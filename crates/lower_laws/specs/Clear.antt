@@ -60,10 +60,6 @@ clear-held z ws t h =
     let e : held ws (t * 2 ^ z) (2 ^ z) ≡ held ws (t * 2 ^ (z - 6) * 64) (2 ^ (z - 6) * 64) = ap₂ (held ws) q p in
     omega (arith, words-held ws (t * 2 ^ (z - 6)) (2 ^ (z - 6)), e)
 
--- no more than the tree has
-pub clear-le : (z : ℕ) (ws : List ℕ) (t : ℕ) → 6 ≤ z → clear z ws t ≤ treeFrames z
-clear-le z ws t h = omega (arith, clear-held z ws t h)
-
 -- two bitmaps with as many frames held in a tree
 pub clear-same : (z : ℕ) (ws us : List ℕ) (t : ℕ) → 6 ≤ z → held us (t * treeFrames z) (treeFrames z) ≡ held ws (t * treeFrames z) (treeFrames z) → clear z us t ≡ clear z ws t
 clear-same z ws us t h e = omega (arith, clear-held z ws t h, clear-held z us t h)

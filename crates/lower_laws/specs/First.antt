@@ -19,13 +19,6 @@ or-none : (x : Found) → orFound x Nothing ≡ x
 or-none (At i) = refl
 or-none Nothing = refl
 
--- one answer or else the other, as the code has them
-pub or-left : (x y z : Found) (i : ℕ) → x ≡ y → x ≡ At i → At i ≡ orFound y z
-or-left x y z i e h = rw (sym e ∙ h)
-
-pub or-right : (x y z r : Found) → x ≡ y → x ≡ Nothing → r ≡ z → r ≡ orFound y z
-or-right x y z r e h q = rw (sym e ∙ h) q
-
 -- what passed the test, in the range
 pub record Sound (t : ℕ → Bool) (a n i : ℕ) : Type 0 where
   pub passed : t i ≡ true

@@ -53,11 +53,6 @@ module _ (z : ℕ) (ws : List ℕ) (t : ℕ) (least : 6 ≤ z) (most : z ≤ 18)
       let q : t * 2 ^ z ≡ t * 2 ^ (z - 6) * 64 = ap (λ (x : ℕ). t * x) p ∙ sym (mul-assoc t (2 ^ (z - 6)) 64) in
       record { order = most; inside = omega (arith, has-words); small = has-small }
 
--- it is a matter of the length alone
-pub has-same : (z : ℕ) (ws us : List ℕ) (t : ℕ) → length us ≡ length ws → hasTree z us t ≡ hasTree z ws t
-unfolding hasTree
-has-same z ws us t e = rw e
-
 -- the tree in which a get seeks: that of the named frame, or of the hint's row
 abbrev pub soughtTree : ℕ → ℕ → Name → ℕ
 soughtTree z row Any = row / treeRows z

@@ -255,21 +255,6 @@ module _ (c : Config) (a : AcceptedConfig c) where
       (λ h. a .locals k (configured-fact c k l h))
       (λ h. (let z : getD (c .places) k 0 ≤ 0 = ltb-false _ _ h in omega arith))
 
-  -- there are at most 256 locals
-  pub localCount-most : localCount (c .places) ≤ 256
-  unfolding localCount sum
-  localCount-most = omega (
-    arith,
-    locals-most 0 (omega arith),
-    locals-most 1 (omega arith),
-    locals-most 2 (omega arith),
-    locals-most 3 (omega arith),
-    locals-most 4 (omega arith),
-    locals-most 5 (omega arith),
-    locals-most 6 (omega arith),
-    locals-most 7 (omega arith),
-  )
-
   -- a good pair has two configured classes
   pub good-configured : (o e : ℕ) → o < 8 → e < 8 → Good c o e → Configured c o × Configured c e
   good-configured o e lo le g = pair-configured c (a .table) o e lo le (omega arith)
@@ -277,10 +262,6 @@ module _ (c : Config) (a : AcceptedConfig c) where
   -- (k, k) is good for a configured class
   pub own-good : (k : ℕ) → Configured c k → Good c k k
   own-good = a .table .rules .own
-
-  -- so is (default, default)
-  pub default-good : Good c (c .default) (c .default)
-  default-good = own-good (c .default) (a .default)
 
   -- if (o, e) is good and (e, default) is not Invalid then (o, default) is good
   pub back-good : (o e : ℕ) → o < 8 → e < 8 → Good c o e → 0 < kindAt c e (c .default) → Good c o (c .default)
@@ -292,13 +273,3 @@ module _ (c : Config) (a : AcceptedConfig c) where
       let y = good-configured o e lo le g in
       let x = pair-configured c (a .table) k o lk lo (omega arith) in
       a .table .rules .down o e k (y .0) (y .1) (x .0) g n
-
-  -- (k, default) is good where it is not Invalid
-  pub to-default-good : (k : ℕ) → k < 8 → 0 < kindAt c k (c .default) → Good c k (c .default)
-  to-default-good k l n =
-      let y = pair-configured c (a .table) k (c .default) l (a .default .0) n in
-      a .table .rules .back k k (y .0) (y .0) (own-good k (y .0)) n
-
-  -- (k, default) is never Steal
-  pub never-steal : (k : ℕ) → k < 8 → kindAt c k (c .default) ≡ 1 → ⊥
-  never-steal k l h = let g : 2 ≤ kindAt c k (c .default) = to-default-good k l (omega arith) in omega arith

@@ -57,10 +57,6 @@ implies-make false b f = refl
 pub pick-true : {A : Type 0} (t : Bool) (a b : A) → t ≡ true → pick t a b ≡ a
 pick-true t a b h = rw h
 
--- the second of two values
-pub pick-false : {A : Type 0} (t : Bool) (a b : A) → t ≡ false → pick t a b ≡ b
-pick-false t a b h = rw h
-
 -- below 0: nothing to test
 pub all-none : (f : ℕ → Bool) → allBelow 0 f ≡ true
 unfolding allBelow

@@ -25,16 +25,6 @@ pub kind-lt : (w : ℕ) → kindOf w < 4
 unfolding kindOf
 kind-lt w = omega arith
 
--- a word of 32 bits has ratings 0 to 255
-pub high-lt : (w : ℕ) → w < 2 ^ 32 → highOf w < 256
-unfolding highOf
-high-lt w h = omega arith
-
--- likewise low
-pub low-lt : (w : ℕ) → lowOf w < 256
-unfolding lowOf
-low-lt w = omega arith
-
 -- the rating of a Match
 unfoldable pub ratingOf : ℕ → ℕ → ℕ
 ratingOf w free = pick (leb (cutOf w) free) (highOf w) (lowOf w)
@@ -76,43 +66,19 @@ module _ (w free : ℕ) where
       (λ h. ap kindNumber (match-of h) ∙ sym h)
 
 module _ (c : Config) (o e : ℕ) where
-  -- by the pair's four kinds
-  pub kind-cases : {X : Type 0} → (kindAt c o e ≡ 0 → X) → (kindAt c o e ≡ 1 → X) → (kindAt c o e ≡ 2 → X) → (kindAt c o e ≡ 3 → X) → X
-  unfolding kindAt
-  kind-cases = kinds-of (pairOf c o e) 0
-
-  -- a pair has one of four kinds
-  pub kindAt-lt : kindAt c o e < 4
-  unfolding kindAt
-  kindAt-lt = kind-lt (pairOf c o e)
 
   -- the kind does not depend on the free argument: the answer's number is the kind
   pub policy-number : (free : ℕ) → kindNumber (policy c o e free) ≡ kindAt c o e
   unfolding policy kindAt
   policy-number free = number-of (pairOf c o e) free
 
-  -- Invalid exactly if the kind is 0
-  pub policy-invalid : (free : ℕ) → kindAt c o e ≡ 0 → policy c o e free ≡ Invalid
-  unfolding policy kindAt
-  policy-invalid free = invalid-of (pairOf c o e) free
-
   -- the other way
   pub invalid-kind : (free : ℕ) → policy c o e free ≡ Invalid → kindAt c o e ≡ 0
   invalid-kind free h = sym (policy-number free) ∙ ap kindNumber h
 
-  -- Steal exactly if the kind is 1
-  pub policy-steal : (free : ℕ) → kindAt c o e ≡ 1 → policy c o e free ≡ Steal
-  unfolding policy kindAt
-  policy-steal free = steal-of (pairOf c o e) free
-
   -- the other way
   pub steal-kind : (free : ℕ) → policy c o e free ≡ Steal → kindAt c o e ≡ 1
   steal-kind free h = sym (policy-number free) ∙ ap kindNumber h
-
-  -- Demote exactly if the kind is 2
-  pub policy-demote : (free : ℕ) → kindAt c o e ≡ 2 → policy c o e free ≡ Demote
-  unfolding policy kindAt
-  policy-demote free = demote-of (pairOf c o e) free
 
   -- the other way
   pub demote-kind : (free : ℕ) → policy c o e free ≡ Demote → kindAt c o e ≡ 2
@@ -127,12 +93,6 @@ module _ (c : Config) (o e : ℕ) where
   pub match-kind : (free r : ℕ) → policy c o e free ≡ Match r → kindAt c o e ≡ 3
   match-kind free r h = sym (policy-number free) ∙ ap kindNumber h
 
-  -- by the policy's four answers
-  pub policy-cases : {X : Type 0} (free : ℕ) → (kindAt c o e ≡ 0 → policy c o e free ≡ Invalid → X) → (kindAt c o e ≡ 1 → policy c o e free ≡ Steal → X)
-      → (kindAt c o e ≡ 2 → policy c o e free ≡ Demote → X) → ((r : ℕ) → kindAt c o e ≡ 3 → policy c o e free ≡ Match r → X) → X
-  policy-cases free f0 f1 f2 f3 = kind-cases (λ h. f0 h (policy-invalid free h)) (λ h. f1 h (policy-steal free h))
-      (λ h. f2 h (policy-demote free h)) (λ h. f3 _ h (policy-match free h))
-
   -- good as a test and as a fact
   pub good-true : Good c o e → good c o e ≡ true
   unfolding good
@@ -142,24 +102,6 @@ module _ (c : Config) (o e : ℕ) where
   pub good-fact : good c o e ≡ true → Good c o e
   unfolding good
   good-fact h = leb-true _ _ h
-
-  -- a pair that is Invalid or Steal
-  pub bad-false : kindAt c o e < 2 → good c o e ≡ false
-  unfolding good
-  bad-false h = lt-leb _ _ h
-
-  -- the fact, from the test
-  pub bad-fact : good c o e ≡ false → kindAt c o e < 2
-  unfolding good
-  bad-fact h = leb-false _ _ h
-
-  -- Demote and Match are good
-  pub demote-good : kindAt c o e ≡ 2 → Good c o e
-  demote-good h = omega arith
-
-  -- likewise Match
-  pub match-good : kindAt c o e ≡ 3 → Good c o e
-  match-good h = omega arith
 
 -- configured as a test and as a fact
 module _ (c : Config) (k : ℕ) where
@@ -171,11 +113,6 @@ module _ (c : Config) (k : ℕ) where
   pub configured-fact : k < 8 → configured (c .places) k ≡ true → Configured c k
   unfolding configured
   configured-fact l h = (l, ltb-true _ _ h)
-
-  -- an unconfigured class
-  pub configured-false : (Configured c k → ⊥) → k < 8 → configured (c .places) k ≡ false
-  unfolding configured
-  configured-false h l = by (ltb 0 (getD (c .places) k 0)) (λ e. absurd (h (l, ltb-true _ _ e))) (λ e. e)
 
   -- the fact, from the test
   pub unconfigured-fact : configured (c .places) k ≡ false → Configured c k → ⊥

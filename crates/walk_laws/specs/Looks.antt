@@ -136,21 +136,6 @@ module _ (walked : List Candidate → State → Out Got Sight) (rest : List Cand
   after-looks h (out (Got.MissedAt t) x) e = omega (arith, e, h (x .found) (x .state))
   after-looks h (out Got.Stuck x) e = omega (arith, e)
 
-  after-most : ((xs : List Candidate) (s : State) → rest xs s ≤ n) → (v : Out Got Sight) → stepsAfter v rest ≤ suc n
-  unfolding onSight stepsAfter
-  after-most h (out (Got.Done f k) x) = omega arith
-  after-most h (out Got.Missed x) = omega (arith, h (x .found) (x .state))
-  after-most h (out (Got.MissedAt t) x) = omega (arith, h (x .found) (x .state))
-  after-most h (out Got.Stuck x) = omega arith
-
-  after-all : ((xs : List Candidate) (s : State) (y : Sight) → walked xs s ≡ out Got.Missed y → rest xs s ≡ n)
-      → (v : Out Got Sight) (y : Sight) → onSight v out walked ≡ out Got.Missed y → stepsAfter v rest ≡ suc n
-  unfolding onSight stepsAfter
-  after-all h (out (Got.Done f k) x) y e = let z : _≡_ {A = ℕ} 0 1 = cc in absurd (omega arith)
-  after-all h (out Got.Missed x) y e = omega (arith, h (x .found) (x .state) y e)
-  after-all h (out (Got.MissedAt t) x) y e = omega (arith, h (x .found) (x .state) y e)
-  after-all h (out Got.Stuck x) y e = let z : _≡_ {A = ℕ} 0 1 = cc in absurd (omega arith)
-
 module _ (c : Config) (q : Request) (w : Walk) (j m n start : ℕ) where
   -- the looks after are the looks before and the steps done
   pub walk-looks : (d i : ℕ) (xs : List Candidate) (s : State)
@@ -160,17 +145,3 @@ module _ (c : Config) (q : Request) (w : Walk) (j m n start : ℕ) where
   walk-looks (suc d) i xs s =
       after-looks (walkSteps d c q w j m n start (i + 1)) (stepsDone d c q w j m n start (i + 1)) (s .looks) (walk-looks d (i + 1))
       (visit c q w j m (place n start i) xs s) (visit-looks c q w j m (place n start i) xs s)
-
-  -- at most d of them
-  pub steps-most : (d i : ℕ) (xs : List Candidate) (s : State) → stepsDone d c q w j m n start i xs s ≤ d
-  unfolding stepsDone
-  steps-most zero i xs s = omega arith
-  steps-most (suc d) i xs s =
-      after-most (walkSteps d c q w j m n start (i + 1)) (stepsDone d c q w j m n start (i + 1)) d (steps-most d (i + 1)) (visit c q w j m (place n start i) xs s)
-
-  -- all d where the walk came back empty
-  pub steps-all : (d i : ℕ) (xs : List Candidate) (s : State) (y : Sight) → walkSteps d c q w j m n start i xs s ≡ out Got.Missed y → stepsDone d c q w j m n start i xs s ≡ d
-  unfolding walkSteps stepsDone
-  steps-all zero i xs s y e = refl
-  steps-all (suc d) i xs s y e =
-      after-all (walkSteps d c q w j m n start (i + 1)) (stepsDone d c q w j m n start (i + 1)) d (steps-all d (i + 1)) (visit c q w j m (place n start i) xs s) y e

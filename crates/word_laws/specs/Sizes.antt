@@ -22,9 +22,6 @@ module _ (z : ℕ) (sz : Size z) where
   pub frames-le : treeFrames z ≤ 262144
   frames-le = pow-mono {i = z} {j = 18} (sz .most)
 
-  pub frames-ge : 64 ≤ treeFrames z
-  frames-ge = pow-mono {i = 6} {j = z} (sz .least)
-
   -- t trees are 64 × t × rows frames
   pub trees-frames : (t : ℕ) → t * treeFrames z ≡ 64 * (t * treeRows z)
   trees-frames t = ap (λ (x : ℕ). t * x) frames-rows ∙ mul-left-comm t 64 (treeRows z)

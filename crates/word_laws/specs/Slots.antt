@@ -64,12 +64,6 @@ module _ (ps : List ℕ) where
       go (no l) (yes r) = absurd (omega (arith, before m x k i r hx))
       go (no l) (no r) = omega arith
 
-  pub slot-index : (k i m x : ℕ) → i < localsOf ps k → x < localsOf ps m → slot ps k i ≡ slot ps m x → i ≡ x
-  unfolding slot
-  slot-index k i m x hi hx e =
-      let q : sum (localsOf ps) 0 k ≡ sum (localsOf ps) 0 m = ap (λ (y : ℕ). sum (localsOf ps) 0 y) (slot-class k i m x hi hx e) in
-      omega arith
-
   -- the next index is the next place
   pub slot-next : (k i : ℕ) → slot ps k (i + 1) ≡ slot ps k i + 1
   unfolding slot

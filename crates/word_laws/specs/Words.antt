@@ -48,18 +48,9 @@ pub absent-word : localOf 0 .present ≡ false
 unfolding localOf
 absent-word = refl
 
--- what a word's fields can be
-pub free-lt : (w : ℕ) → treeOf w .free < 2 ^ 28
-unfolding treeOf
-free-lt w = omega arith
-
 pub row-lt : (w : ℕ) → localOf w .row < 2 ^ 44
 unfolding localOf
 row-lt w = omega arith
-
-pub share-lt : (w : ℕ) → localOf w .free < 2 ^ 19
-unfolding localOf
-share-lt w = omega arith
 
 -- a present local is one of the lent words
 pub present-lt : (ls : List ℕ) (j : ℕ) → localAt ls j .present ≡ true → j < length ls
@@ -72,17 +63,6 @@ present-lt ls j p = go (decLt j (length ls))
         let z : getD ls j 0 ≡ 0 = List·getD-eq-default ls 0 (omega arith) in
         let q : false ≡ true = rw z at p in
         absurd (let y : _≡_ {A = ℕ} 0 1 = cc in omega arith)
-
--- an entry with frames is one of the lent words
-pub free-there : (ts : List ℕ) (t : ℕ) → 0 < entryAt ts t .free → t < length ts
-unfolding treeOf
-free-there ts t p = go (decLt t (length ts))
-  where
-    go : Dec (t < length ts) → t < length ts
-    go (yes h) = h
-    go (no h) =
-        let z : getD ts t 0 ≡ 0 = List·getD-eq-default ts 0 (omega arith) in
-        absurd (omega (arith, p, ap (λ (x : ℕ). x % 2 ^ 28) z))
 
 -- 1 or 0
 pub bit-true : (b : Bool) → bitOf b ≡ 1 → b ≡ true
