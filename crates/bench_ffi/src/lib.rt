@@ -2,8 +2,6 @@
 use rules::Found;
 use rules::Header;
 use rules::Name;
-ghost use Prim.Native.Nat.{_+_, _*_, _≤_};
-ghost use lib.ListN.{length};
 
 // The clear bits of the whole trees of a bitmap.
 #[no_mangle]

@@ -12,8 +12,6 @@ ghost use Rattle.rules.specs.Words.{config};
 ghost use Rattle.ways.specs.Calls.{outcomeOf};
 ghost use Rattle.patterns.specs.Board.{Ready};
 ghost use Rattle.patterns.specs.Patterns.{framesOf};
-ghost use Prim.Native.Nat.{_+_, _*_, _/_, _^_, _<_, _≤_};
-ghost use lib.ListN.{length};
 
 // What is held of a pattern: whether it is whole, and how many frames. The binary digits of that number are the orders of the blocks; the block
 // of an order begins at first[order].

@@ -4,8 +4,6 @@ use lines::Args;
 use rules::Given;
 use rules::Name;
 use rules::Request;
-ghost use Prim.Native.Nat.{_+_, _≤_, _<_};
-ghost use lib.ListN.{length};
 
 // A length lent: the exact one, or a number.
 pub enum Length {

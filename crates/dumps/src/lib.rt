@@ -1,6 +1,4 @@
 // The words lent as lines that store them, and their sums.
-ghost use Prim.Native.Nat.{_+_, _≤_, _<_};
-ghost use lib.ListN.{length};
 
 // A word, if it is not 0, as the line that stores it.
 fn dump_word(name: &[u8], i: usize, w: u64, out: &mut [u8], at: usize) -> usize {

@@ -6,7 +6,6 @@ use Prim.Native.Nat.{ℕ}
 use Rattle.rules.specs.declared.Header.{Header}
 use Rattle.rules.specs.declared.Name.{Name}
 use Rattle.rules.specs.declared.Request.{Request}
-use Rattle.ways.specs.State.{st}
 use Rattle.ways.specs.Calls.{Told, telling, fresh}
 use Rattle.ways.specs.Promises.{Words}
 use Rattle.complete.specs.Complete.{same-words}

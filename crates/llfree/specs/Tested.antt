@@ -1,14 +1,14 @@
 -- What the state test and the argument tests give to the calls behind them; how a refusal is told. Assumes nothing.
 use mathlib.Core.Path.{_≡_, refl, sym, ap, _∙_}
-use mathlib.Core.Bool.{Bool, true, false}
+use mathlib.Core.Bool.{true}
 use mathlib.Core.List.{List}
-use Prim.Native.Nat.{ℕ, zero, suc, _-_, _*_, _^_, _<_, _≤_}
+use Prim.Native.Nat.{ℕ, _-_, _*_, _^_, _<_, _≤_}
 use native.Mathlib.Omega.{arith}
 use lib.Dec.{eqb}
 use lib.ListN.{length}
 use borrow.Author.Tests.{eqb-true}
 use Rattle.rules.specs.Base.{both}
-use Rattle.rules.specs.Words.{Config, config, treeCount, trees, localCount}
+use Rattle.rules.specs.Words.{Config, config, trees, localCount}
 use Rattle.rules.specs.Policy.{accepted}
 use Rattle.rules.specs.declared.Header.{Header}
 use Rattle.ways.specs.declared.Refusal.{Refusal}
@@ -19,7 +19,7 @@ use Rattle.ways.specs.State.{State}
 use Rattle.ways.specs.Standing.{standing, lengthsExact}
 use Rattle.ways.specs.Calls.{Told, telling, numberOf, outcomeOf, unless}
 use Rattle.policy_laws.specs.All.{both-left, both-right}
-use Rattle.policy_laws.specs.Accepted.{AcceptedConfig, accepted-says}
+use Rattle.policy_laws.specs.Accepted.{accepted-says}
 
 -- a state that stands has an accepted header and table
 pub standing-accepted : (c : Config) (ts ls bs : List ℕ) → standing c ts ls bs ≡ true → accepted c ≡ true

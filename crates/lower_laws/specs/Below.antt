@@ -1,18 +1,15 @@
 -- Where every frame from f on is held, a free block lies below f; and a block below f that is marked leaves them held. Assumes nothing.
 use mathlib.Core.Path.{_≡_}
-use mathlib.Core.Bool.{Bool}
 use mathlib.Core.Logic.{⊎-elim}
 use mathlib.Core.List.{List}
 use Prim.Native.Nat.{ℕ, _+_, _-_, _*_, _^_, _<_, _≤_}
 use native.Mathlib.Omega.{arith}
 use lib.ListN.{length}
 use lib.Pow.{pow-pos}
-use Rattle.rules.specs.Lower.{held, heldIn, mark}
+use Rattle.rules.specs.Lower.{held, heldIn}
 use Rattle.lower_laws.specs.Cases.{below-or}
 use Rattle.lower_laws.specs.Block.{Block}
 use Rattle.lower_laws.specs.Run.{free-part-of, held-part-of}
-use Rattle.lower_laws.specs.Past.{pastHeld}
-use Rattle.lower_laws.specs.Mark.{Marked, marked, count-above}
 
 module _ (ws : List ℕ) (o j f : ℕ) (b : Block ws o j) where
   -- a wholly free block ends at f or before it

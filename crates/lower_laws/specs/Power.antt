@@ -4,7 +4,6 @@ use Prim.Native.Nat.{ℕ, zero, suc, _+_, _-_, _*_, _/_, _%_, _^_, _<_, _≤_}
 use native.Mathlib.Nat.{one-mul, mul-assoc, mul-add, add-mul, mul-le-mul-right, mod-lt, pow-suc}
 use native.Mathlib.Omega.{arith}
 use lib.Pow.{shl-exact, shl-shr, shr-shr, split, pow-pos, pow-mono, pow-add}
-use lib.Dec.{lit<}
 
 -- `1 << k` at 64 bits
 pub one-shl : (k : ℕ) → k < 64 → (1 * 2 ^ k) % 2 ^ 64 ≡ 2 ^ k

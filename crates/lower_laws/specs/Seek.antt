@@ -9,7 +9,7 @@ use lib.Dec.{eqb, leb, ltb}
 use lib.Pow.{pow-pos, shr-shr}
 use borrow.Author.Tests.{lt-leb, le-leb, ne-eqb, eqb-true, ltb-true, ltb-false}
 use Rattle.rules.specs.Base.{pick, both, either, orFound, firstIn}
-use Rattle.rules.specs.Lower.{held, heldIn, hit}
+use Rattle.rules.specs.Lower.{heldIn, hit}
 use Rattle.rules.specs.declared.Found.{Found}
 use Rattle.rules.specs.declared.Found.the-variants.{At, Nothing}
 use Rattle.lower_laws.specs.Power.{inside, row-up, row-first}

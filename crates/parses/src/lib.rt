@@ -3,8 +3,6 @@ use commands::Call;
 use commands::Command;
 use commands::Show;
 use lines::Args;
-ghost use Prim.Native.Nat.{_+_, _≤_, _<_};
-ghost use lib.ListN.{length};
 
 // start free, start held: the line from `at` on.
 fn start(s: &[u8], at: usize) -> Command {

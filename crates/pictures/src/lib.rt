@@ -4,8 +4,6 @@ use stores::Held;
 
 mod look;
 
-ghost use Prim.Native.Nat.{_+_, _≤_, _<_};
-ghost use lib.ListN.{length};
 
 // The answer to a line that looks, at the words lent.
 pub fn show<'a>(

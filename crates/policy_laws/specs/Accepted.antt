@@ -8,8 +8,8 @@ use lib.Dec.{eqb, leb, ltb}
 use lib.ListN.{getD}
 use lib.Pow.{pow-pos}
 use borrow.Author.Tests.{leb-true, le-leb, ltb-true, ltb-false, lt-ltb, eq-eqb, ne-eqb, eqb-true, eqb-false}
-use Rattle.rules.specs.Base.{pick, both, allBelow, sum}
-use Rattle.rules.specs.Words.{Config, treeFrames, treeCount, trees, configured, localsOf, localCount}
+use Rattle.rules.specs.Base.{pick, both, allBelow}
+use Rattle.rules.specs.Words.{Config, treeFrames, treeCount, trees, configured, localsOf}
 use Rattle.rules.specs.Policy.{pairOf, kindOf, cutOf, lowOf, highOf, kindAt, good, pairFormed, pairAccepted, tableFormed, implies, rulesAt, tableRules, framesAccepted, placesAccepted, defaultAccepted, accepted, Configured, Good, Accepts}
 use Rattle.policy_laws.specs.All.{by, both-left, both-right, both-true, implies-at, implies-make, all-at, all-make}
 use Rattle.policy_laws.specs.Kinds.{good-true, good-fact, configured-true, configured-fact, unconfigured-fact}

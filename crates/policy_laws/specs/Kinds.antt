@@ -1,11 +1,11 @@
 -- The policy's answer against the pair's kind, and good pairs and configured classes as tests and as facts. Assumes nothing.
 use mathlib.Core.Path.{_≡_, sym, ap, _∙_}
 use mathlib.Core.Bool.{true, false}
-use Prim.Native.Nat.{ℕ, _^_, _<_, _≤_}
+use Prim.Native.Nat.{ℕ, _<_, _≤_}
 use native.Mathlib.Omega.{arith}
-use lib.Dec.{eqb, leb, ltb}
+use lib.Dec.{eqb, leb}
 use lib.ListN.{getD}
-use borrow.Author.Tests.{leb-true, leb-false, le-leb, lt-leb, ltb-true, ltb-false, lt-ltb, eq-eqb, eqb-true, eqb-false}
+use borrow.Author.Tests.{leb-true, le-leb, ltb-true, ltb-false, lt-ltb, eq-eqb, eqb-true, eqb-false}
 use Rattle.rules.specs.Base.{pick}
 use Rattle.rules.specs.Words.{Config, configured}
 use Rattle.rules.specs.Policy.{pairOf, kindOf, cutOf, lowOf, highOf, policyOf, policy, kindAt, good, Configured, Good}

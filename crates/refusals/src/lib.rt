@@ -4,8 +4,6 @@ use rules::Header;
 use rules::Name;
 use rules::Request;
 use ways::Granted;
-ghost use Prim.Native.Nat.{_+_, _≤_, _<_};
-ghost use lib.ListN.{length};
 
 // The frame that the get to be refused with n names: the one past the last, one that is no multiple of 2, one that is held, or none.
 fn name(h: Header, n: usize) -> Name {

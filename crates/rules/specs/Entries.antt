@@ -1,5 +1,5 @@
 -- 01, Single words (trees.rs): what a put, a steal, a reservation, its return and a sync do to an entry. Assumes nothing.
-use mathlib.Core.Bool.{Bool, true, false}
+use mathlib.Core.Bool.{true, false}
 use mathlib.Core.List.{List}
 use Prim.Native.Nat.{ℕ, _+_, _-_}
 use lib.Dec.{eqb, ltb}

@@ -1,8 +1,7 @@
 -- Worked cases of the single words, the table and the lower, with document 01's figures, by computing the definitions. Assumes nothing.
 use mathlib.Core.Path.{_≡_, refl}
-use mathlib.Core.Bool.{Bool, true, false}
 use mathlib.Core.List.{List, [], _∷_, _++_}
-use Prim.Native.Nat.{ℕ, zero, suc, _+_, _*_}
+use Prim.Native.Nat.{ℕ, _+_, _*_}
 use lib.ListN.{replicate}
 use Rattle.rules.specs.Base.{Out, out, bitOf, ifte, allBelow, sum, firstIn}
 use Rattle.rules.specs.Words.{Config, treeCount, configured, localsOf, slot, localCount, treeOf, treeWord, localOf, localWord}
@@ -22,7 +21,6 @@ use Rattle.rules.specs.declared.Found.{Found}
 use Rattle.rules.specs.declared.Found.the-variants.{At, Nothing}
 use Rattle.rules.specs.declared.Payer.{Payer}
 use Rattle.rules.specs.declared.Payer.the-variants as Payer
-use Rattle.rules.specs.declared.Name.{Name}
 use Rattle.rules.specs.declared.Name.the-variants.{Any, Frame}
 
 -- table T: (0,0), (1,1) Match, cut 0, low 0, high 255; (0,1) Demote; (1,0) Steal; classes 0 and 1 with two locals each, default d

@@ -1,11 +1,10 @@
 -- 01, Policy table: kinds, cut and ratings, the form of a table, which tables and headers a start accepts. Assumes nothing.
 use mathlib.Core.Path.{_≡_}
 use mathlib.Core.Bool.{Bool, true, false}
-use mathlib.Core.List.{List}
 use Prim.Native.Nat.{ℕ, _+_, _*_, _/_, _%_, _^_, _<_, _≤_}
 use lib.Dec.{eqb, leb, ltb}
 use lib.ListN.{getD}
-use Rattle.rules.specs.Base.{pick, both, either, allBelow}
+use Rattle.rules.specs.Base.{pick, both, allBelow}
 use Rattle.rules.specs.Words.{Config, treeFrames, configured}
 use Rattle.rules.specs.declared.Kind.{Kind}
 use Rattle.rules.specs.declared.Kind.the-variants.{Invalid, Steal, Demote, Match}

@@ -4,8 +4,6 @@ use libc::STDERR_FILENO;
 use libc::STDIN_FILENO;
 use libc::STDOUT_FILENO;
 use stores::Held;
-ghost use Prim.Native.Nat.{_+_, _≤_, _<_};
-ghost use lib.ListN.{length};
 
 // Where the run stands: the store, the next line's place in the input, the bytes there, the lines counted, whether a line too long is passed over, whether the input has ended, the answers' bytes not yet written, and whether all is done.
 struct Run {

@@ -8,8 +8,6 @@ use ways::Granted;
 use ways::Outcome;
 use ways::Reply;
 use ways::Tally;
-ghost use Prim.Native.Nat.{_+_, _≤_, _<_};
-ghost use lib.ListN.{length};
 
 // Writes the first `at` bytes of a line, or says that it cannot.
 fn write(line: &[u8], at: usize) {

@@ -7,7 +7,6 @@ use native.Mathlib.Nat.{add-zero, zero-add, eq-or-lt-of-le, mul-le-mul-right, on
 use native.Mathlib.Omega.{arith}
 use lib.ListN.{length, getD, set, length-set}
 use lib.Seq.{getD-set-same, getD-set-other}
-use lib.Dec.{lit<}
 use lib.Pow.{pow-pos, pow-lt, shl-exact}
 use borrow.Author.Tests.{le-leb, lt-leb}
 use Rattle.lower_laws.specs.Cases.{below-or}

@@ -10,7 +10,7 @@ use lib.Dec.{eqb}
 use lib.Pow.{pow-pos}
 use lib.ListN.{length, replicate, getD-replicate}
 use borrow.Author.Tests.{eqb-true, eqb-false}
-use Rattle.rules.specs.Base.{pick, both, allBelow, sum}
+use Rattle.rules.specs.Base.{pick, both, allBelow}
 use Rattle.rules.specs.Words.{localAt}
 use Rattle.rules.specs.Lower.{bitAt, bit, held, heldIn, mark}
 use Rattle.rules.specs.declared.Local.{Local}

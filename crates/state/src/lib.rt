@@ -5,7 +5,7 @@ ghost use mathlib.Core.Path.{_≡_};
 ghost use Prim.Native.Nat.{_+_, _*_, _^_, _<_, _≤_};
 ghost use lib.ListN.{length};
 ghost use Rattle.rules.specs.Base.{bitOf, allBelow, sum};
-ghost use Rattle.rules.specs.Words.{config, localsOf, localOf};
+ghost use Rattle.rules.specs.Words.{config, localsOf};
 ghost use Rattle.ways.specs.Standing.{lengthsExact, entryStands, holderStands, localStands, classStands, apartBefore, reservedCount, presentCount, standing};
 ghost use Rattle.state.specs.Exact.{Exact};
 ghost use Rattle.state.specs.Apart.{Inside};

@@ -1,10 +1,10 @@
 -- Statistics by value: what the call answers and whether and how it fills the rows; and that this is the definition. Assumes nothing.
-use mathlib.Core.Path.{_≡_, refl, sym, ap, subst, _∙_}
+use mathlib.Core.Path.{_≡_, refl, sym, subst}
 use mathlib.Core.Bool.{Bool, true, false, not}
 use mathlib.Core.List.{List}
 use Prim.Native.Nat.{ℕ, _*_, _^_, _≤_}
 use native.Mathlib.Omega.{arith}
-use lib.Dec.{T, eqb, eqb→eq}
+use lib.Dec.{T, eqb}
 use lib.ListN.{length}
 use Rattle.rules.specs.Base.{ifte}
 use Rattle.rules.specs.Words.{Config, config}
@@ -14,10 +14,9 @@ use Rattle.ways.specs.declared.Refusal.{Refusal}
 use Rattle.ways.specs.declared.Refusal.the-variants as Refusal
 use Rattle.ways.specs.declared.Outcome.the-variants as Outcome
 use Rattle.ways.specs.declared.Tally.{Tally}
-use Rattle.ways.specs.declared.Totals.{Totals}
 use Rattle.ways.specs.Calls.{outcomeOf, numberOf}
 use Rattle.ways.specs.Standing.{standing}
-use Rattle.ways.specs.Statistics.{tally, tallies, totalFree, freeTrees, toldTotals, statistics}
+use Rattle.ways.specs.Statistics.{tally, totalFree, freeTrees, toldTotals, statistics}
 use Rattle.tallies.specs.declared.Rows.{Rows}
 use Rattle.tallies.specs.Rows.{rowsOf, rowList, rows-tallies}
 use Rattle.policy_laws.specs.All.{both-left}

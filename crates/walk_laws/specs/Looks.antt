@@ -1,15 +1,13 @@
 -- The looks of a walk are its steps: each step that was done is one look, and nothing else is. Assumes nothing.
-use mathlib.Core.Path.{_≡_, refl, sym, _∙_}
+use mathlib.Core.Path.{_≡_, refl}
 use mathlib.Core.Bool.{Bool, true, false}
 use mathlib.Core.List.{List}
-use Prim.Native.Nat.{ℕ, zero, suc, _+_, _*_, _^_, _-_, _≤_}
+use Prim.Native.Nat.{ℕ, zero, suc, _+_, _-_}
 use native.Mathlib.Omega.{arith}
 use lib.Dec.{eqb}
-use Rattle.rules.specs.Base.{ifte, bitOf, Out, out}
-use Rattle.rules.specs.Words.{Config, treeRows, entryAt}
-use Rattle.rules.specs.Entries.{entrySteal, entryReserve, entryUnreserve}
-use Rattle.rules.specs.Locals.{reservation, localSwap}
-use Rattle.rules.specs.Lower.{lowerGet}
+use Rattle.rules.specs.Base.{ifte, Out, out}
+use Rattle.rules.specs.Words.{Config, entryAt}
+use Rattle.rules.specs.Entries.{entryUnreserve}
 use Rattle.rules.specs.declared.Tree.{Tree}
 use Rattle.rules.specs.declared.Local.{Local}
 use Rattle.rules.specs.declared.Name.{Name}
@@ -25,8 +23,8 @@ use Rattle.ways.specs.declared.Got.{Got}
 use Rattle.ways.specs.declared.Got.the-variants as Got
 use Rattle.ways.specs.declared.Walk.{Walk}
 use Rattle.ways.specs.declared.Walk.the-variants as Walk
-use Rattle.ways.specs.State.{State, Way, size, done, missed, stuck, withTrees, withLocals, withTry, withLook, onTook, onTaken, onFound, onSwap, askLower, putEntry, unreserve, unreserveLocal}
-use Rattle.ways.specs.Walk.{Candidate, Sight, sight, best, place, rate, isFull, admit, stealGlobal, reserved, reserveOrSteal, access, tried, offered, visit, onSight, walkSteps}
+use Rattle.ways.specs.State.{State, Way, done, missed, stuck, withTrees, withLocals, withTry, withLook, onTook, onTaken, onFound, onSwap, askLower, putEntry, unreserve, unreserveLocal}
+use Rattle.ways.specs.Walk.{Candidate, Sight, best, place, rate, stealGlobal, reserved, reserveOrSteal, access, tried, offered, visit, onSight, walkSteps}
 
 -- the looks of an answer
 abbrev pub looksOf : Way → ℕ

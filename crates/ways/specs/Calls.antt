@@ -3,7 +3,6 @@ use mathlib.Core.Bool.{Bool, true, false}
 use mathlib.Core.List.{List}
 use Prim.Native.Nat.{ℕ, zero, suc, _+_, _-_, _*_, _/_, _%_, _^_}
 use lib.Dec.{eqb, leb, ltb}
-use lib.ListN.{getD}
 use Rattle.rules.specs.Base.{pick, both, ifte, listed, Out, out}
 use Rattle.rules.specs.Words.{Config, treeFrames, treeRows, trees, configured, localsOf, slot, localCount, treeWord, entry}
 use Rattle.rules.specs.Policy.{accepted}

@@ -1,7 +1,7 @@
 -- 01, Bench examples: E1 to E12 as a single table with a single claim, by computing the definitions; and further cases that refuse wrong
 -- definitions which E1 to E12 let pass, with figures that the Rust gave, or that 01's text gives where the Rust has no answer. More are in crate `cases`. Assumes nothing.
 use mathlib.Core.Path.{_≡_, refl}
-use mathlib.Core.Bool.{Bool, true, false}
+use mathlib.Core.Bool.{true, false}
 use mathlib.Core.List.{List, [], _∷_, _++_}
 use Prim.Native.Nat.{ℕ, zero, suc, _+_, _*_}
 use lib.ListN.{getD, set, replicate, take, drop, length}
@@ -15,11 +15,10 @@ use Rattle.rules.specs.declared.Name.{Name}
 use Rattle.rules.specs.declared.Name.the-variants.{Any, Frame}
 use Rattle.rules.specs.declared.Given.{Given}
 use Rattle.rules.specs.declared.Given.the-variants as Given
-use Rattle.rules.specs.declared.Request.{Request}
 use Rattle.ways.specs.declared.Tally.{Tally}
 use Rattle.ways.specs.Statistics
 use Rattle.ways.specs.Statistics.{Report, overClass, entryFree, localFree, entryAlloc, reservedFree, inUse, tally, totalFree, freeTrees, statistics}
-use Rattle.ways.specs.State.{State, indexOf, done, missed, missedAt, stuck, orElse, withTrees, withLocals, withBits, withTry, withLook, onTook, onTaken, onSync, onHeld, onPut, onSwap, onFound, putEntry, setRow, askLower, unreserve, unreserveLocal}
+use Rattle.ways.specs.State.{indexOf, done, missed, missedAt, stuck, orElse, withTrees, withLocals, withBits, withTry, withLook, onTook, onTaken, onSync, onHeld, onPut, onSwap, onFound, putEntry, setRow, askLower, unreserve, unreserveLocal}
 use Rattle.ways.specs.Locals.{takeBy, topBy, topUp, getLocal, ownLocal, payFrom, stealLocal, demoteTo, moveFrom, demoteLocal}
 use Rattle.ways.specs.Walk.{place, ratedIn, rate, insert, admit, stealGlobal, reserved, reserveOrSteal, access, tried, offered, visit, onSight, walkSteps, walk, tryList, stopped, searchBest}
 use Rattle.ways.specs.Search.{near, roundDown, roundedStart, searchFar, searchFrom, searchAndReserve, searchAndSteal}

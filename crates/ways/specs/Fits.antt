@@ -1,6 +1,6 @@
 -- What the argument tests of a call have shown when its routes begin: the `requires` of the functions behind the exported ones. Assumes nothing.
 use mathlib.Core.Path.{_≡_, subst}
-use Prim.Native.Nat.{ℕ, _+_, _^_, _<_, _≤_}
+use Prim.Native.Nat.{ℕ, _^_, _<_, _≤_}
 use Rattle.rules.specs.declared.Header.{Header}
 use Rattle.rules.specs.declared.Given.{Given}
 use Rattle.rules.specs.declared.Given.the-variants as Given

@@ -1,7 +1,7 @@
 -- 01, The routes of get, in their order. Assumes nothing.
 use Prim.Native.Nat.{ℕ, _*_, _/_}
 use lib.Dec.{eqb, ltb}
-use Rattle.rules.specs.Base.{pick, ifte, Out, out}
+use Rattle.rules.specs.Base.{pick, ifte, out}
 use Rattle.rules.specs.Words.{Config, treeFrames, trees, localsOf, slot}
 use Rattle.rules.specs.declared.Name.{Name}
 use Rattle.rules.specs.declared.Name.the-variants.{Any, Frame}

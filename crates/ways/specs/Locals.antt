@@ -1,5 +1,5 @@
 -- 01, From a local, and Locals: the own local with its one sync; steal and demote over locals. Assumes nothing.
-use Prim.Native.Nat.{ℕ, zero, suc, _+_, _-_, _*_, _/_, _^_}
+use Prim.Native.Nat.{ℕ, zero, suc, _-_, _/_}
 use lib.Dec.{ltb}
 use Rattle.rules.specs.Base.{ifte}
 use Rattle.rules.specs.Words.{Config, treeRows, slot}

@@ -1,5 +1,5 @@
 -- 01, Reserving search and Stealing search. Assumes nothing.
-use Prim.Native.Nat.{ℕ, _+_, _-_, _*_, _/_, _^_}
+use Prim.Native.Nat.{ℕ, _*_, _/_, _^_}
 use lib.Dec.{leb, ltb}
 use Rattle.rules.specs.Base.{pick, ifte, firstIn}
 use Rattle.rules.specs.Words.{Config, hugeOrder, trees}

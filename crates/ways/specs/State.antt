@@ -1,7 +1,7 @@
 -- 01, The routes of get: the lent words with the counts, how a route ends, and the steps that routes are made of. Assumes nothing.
 use mathlib.Core.Bool.{Bool, true, false}
 use mathlib.Core.List.{List}
-use Prim.Native.Nat.{ℕ, zero, suc, _+_, _-_, _*_, _/_, _%_, _^_}
+use Prim.Native.Nat.{ℕ, _+_, _/_, _^_}
 use Rattle.rules.specs.Base.{ifte, Out, out}
 use Rattle.rules.specs.Words.{Config, treeRows}
 use Rattle.rules.specs.Entries.{entryPut, entryUnreserve}

@@ -1,8 +1,8 @@
 -- 01, Walk: the order of trees, their rating, the list of the best, what is tried at once. Letters: n trees, i a step, t a tree, w the walk,
 -- j the place of the own local, m the length of the list (01's N). Assumes nothing.
-use mathlib.Core.Bool.{Bool, true, false}
+use mathlib.Core.Bool.{Bool}
 use mathlib.Core.List.{List, [], _∷_}
-use Prim.Native.Nat.{ℕ, zero, suc, _+_, _-_, _*_, _/_, _%_, _^_}
+use Prim.Native.Nat.{ℕ, zero, suc, _+_, _-_, _*_, _/_, _%_}
 use lib.Dec.{eqb, ltb}
 use lib.ListN.{take}
 use Rattle.rules.specs.Base.{pick, bitOf, ifte, Out, out}

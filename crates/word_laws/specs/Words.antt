@@ -1,5 +1,5 @@
 -- Round trips of tree and local words, and the bounds of their fields. Assumes nothing.
-use mathlib.Core.Path.{_≡_, refl, ap}
+use mathlib.Core.Path.{_≡_, refl}
 use mathlib.Core.Bool.{Bool, true, false}
 use mathlib.Core.List.{List}
 use Prim.Native.Nat.{ℕ, _+_, _-_, _*_, _/_, _%_, _^_, _<_, _≤_}
@@ -8,7 +8,7 @@ use native.Mathlib.Omega.{arith}
 use native.Mathlib.Decide.{decLt}
 use lib.ListN.{length, getD, List·getD-eq-default}
 use Rattle.rules.specs.Base.{bitOf}
-use Rattle.rules.specs.Words.{treeOf, treeWord, localOf, localWord, entry, entryAt, localAt}
+use Rattle.rules.specs.Words.{treeOf, treeWord, localOf, localWord, entry, localAt}
 use Rattle.rules.specs.Locals.{reservation}
 
 -- a tree word whose fields fit their bits is stored exactly

@@ -4,11 +4,6 @@ use Rattle.answers.specs.Answers.{answerText}
 use borrow.Author.Needs.{needs}
 use Rattle.answers.proofs.answer.Statement.{statement}
 use Rattle.answers.proofs.answer.Tie as tie
-use Rattle.answers.proofs.answer.Reads as reads
-use Rattle.answers.proofs.answer.Lts as lts
-use Rattle.answers.proofs.outcome.Reads as outcome-reads
-use Rattle.answers.proofs.reply.Reads as reply-reads
-use Rattle.answers.proofs.stats.Reads as stats-reads
 
 enum-known-a : tie.Need-enum-known-a
 enum-known-a c = search needs

@@ -4,12 +4,6 @@ use Rattle.answers.specs.Answers.{grantedText}
 use borrow.Author.Needs.{needs}
 use Rattle.answers.proofs.granted.Statement.{statement}
 use Rattle.answers.proofs.granted.Tie as tie
-use Rattle.answers.proofs.granted.Reads as reads
-use Rattle.answers.proofs.granted.Lts as lts
-use Rattle.answers.proofs.name.Reads as name-reads
-use Rattle.numbers.proofs.refusal_number.Reads as refusal-number-reads
-use Rattle.texts.proofs.append.Reads as append-reads
-use Rattle.texts.proofs.put_number.Reads as put-number-reads
 
 enum-known-g : tie.Need-enum-known-g
 enum-known-g c = search needs

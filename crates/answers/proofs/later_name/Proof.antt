@@ -6,9 +6,6 @@ use Rattle.answers.specs.Answers.{names, nameAt, no-name}
 use borrow.Author.Needs.{needs}
 use Rattle.answers.proofs.later_name.Statement.{statement}
 use Rattle.answers.proofs.later_name.Tie as tie
-use Rattle.answers.proofs.later_name.Reads as reads
-use Rattle.answers.proofs.later_name.Lts as lts
-use Rattle.texts.proofs.append.Reads as append-reads
 
 slice-aggregate-append : tie.Need-slice-aggregate-append
 slice-aggregate-append c = search needs

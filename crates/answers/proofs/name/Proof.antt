@@ -4,10 +4,6 @@ use Rattle.answers.specs.Answers.{names, nameAt}
 use borrow.Author.Needs.{needs}
 use Rattle.answers.proofs.name.Statement.{statement}
 use Rattle.answers.proofs.name.Tie as tie
-use Rattle.answers.proofs.name.Reads as reads
-use Rattle.answers.proofs.name.Lts as lts
-use Rattle.answers.proofs.later_name.Reads as later-name-reads
-use Rattle.texts.proofs.append.Reads as append-reads
 
 slice-aggregate-append : tie.Need-slice-aggregate-append
 slice-aggregate-append c = search needs

@@ -4,12 +4,6 @@ use Rattle.answers.specs.Answers.{outcomeText}
 use borrow.Author.Needs.{needs}
 use Rattle.answers.proofs.outcome.Statement.{statement}
 use Rattle.answers.proofs.outcome.Tie as tie
-use Rattle.answers.proofs.outcome.Reads as reads
-use Rattle.answers.proofs.outcome.Lts as lts
-use Rattle.answers.proofs.name.Reads as name-reads
-use Rattle.numbers.proofs.number.Reads as number-reads
-use Rattle.texts.proofs.append.Reads as append-reads
-use Rattle.texts.proofs.put_byte.Reads as put-byte-reads
 
 append-requires : tie.Need-append-requires
 append-requires c κs = search needs

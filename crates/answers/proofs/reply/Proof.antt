@@ -4,12 +4,6 @@ use Rattle.answers.specs.Answers.{replyText}
 use borrow.Author.Needs.{needs}
 use Rattle.answers.proofs.reply.Statement.{statement}
 use Rattle.answers.proofs.reply.Tie as tie
-use Rattle.answers.proofs.reply.Reads as reads
-use Rattle.answers.proofs.reply.Lts as lts
-use Rattle.answers.proofs.granted.Reads as granted-reads
-use Rattle.texts.proofs.append.Reads as append-reads
-use Rattle.texts.proofs.put_byte.Reads as put-byte-reads
-use Rattle.texts.proofs.put_number.Reads as put-number-reads
 
 slice-aggregate-append : tie.Need-slice-aggregate-append
 slice-aggregate-append c = search needs

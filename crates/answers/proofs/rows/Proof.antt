@@ -4,9 +4,6 @@ use Rattle.answers.specs.Answers.{rowsText}
 use borrow.Author.Needs.{needs}
 use Rattle.answers.proofs.rows.Statement.{statement}
 use Rattle.answers.proofs.rows.Tie as tie
-use Rattle.answers.proofs.rows.Reads as reads
-use Rattle.answers.proofs.rows.Lts as lts
-use Rattle.answers.proofs.row.Reads as row-reads
 
 row-requires : tie.Need-row-requires
 row-requires c κs = search needs

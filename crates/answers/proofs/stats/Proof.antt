@@ -4,10 +4,6 @@ use Rattle.answers.specs.Answers.{statsText, rowsIf}
 use borrow.Author.Needs.{needs}
 use Rattle.answers.proofs.stats.Statement.{statement}
 use Rattle.answers.proofs.stats.Tie as tie
-use Rattle.answers.proofs.stats.Reads as reads
-use Rattle.answers.proofs.stats.Lts as lts
-use Rattle.answers.proofs.rows.Reads as rows-reads
-use Rattle.answers.proofs.totals.Reads as totals-reads
 
 totals-requires : tie.Need-totals-requires
 totals-requires c κs = search needs

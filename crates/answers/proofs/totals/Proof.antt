@@ -4,13 +4,6 @@ use Rattle.answers.specs.Answers.{totalsText}
 use borrow.Author.Needs.{needs}
 use Rattle.answers.proofs.totals.Statement.{statement}
 use Rattle.answers.proofs.totals.Tie as tie
-use Rattle.answers.proofs.totals.Reads as reads
-use Rattle.answers.proofs.totals.Lts as lts
-use Rattle.answers.proofs.name.Reads as name-reads
-use Rattle.numbers.proofs.number.Reads as number-reads
-use Rattle.texts.proofs.append.Reads as append-reads
-use Rattle.texts.proofs.put_byte.Reads as put-byte-reads
-use Rattle.texts.proofs.put_number.Reads as put-number-reads
 
 slice-aggregate-append : tie.Need-slice-aggregate-append
 slice-aggregate-append c = search needs

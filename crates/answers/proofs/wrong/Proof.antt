@@ -4,10 +4,6 @@ use Rattle.answers.specs.Answers.{wrongText}
 use borrow.Author.Needs.{needs}
 use Rattle.answers.proofs.wrong.Statement.{statement}
 use Rattle.answers.proofs.wrong.Tie as tie
-use Rattle.answers.proofs.wrong.Reads as reads
-use Rattle.answers.proofs.wrong.Lts as lts
-use Rattle.texts.proofs.put_byte.Reads as put-byte-reads
-use Rattle.texts.proofs.put_number.Reads as put-number-reads
 
 slice-aggregate-put-number : tie.Need-slice-aggregate-put-number
 slice-aggregate-put-number c = search needs

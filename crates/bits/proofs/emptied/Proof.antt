@@ -6,8 +6,6 @@ use Rattle.lower_laws.specs.Field.{mask, empty-sum}
 use borrow.Author.Needs.{needs}
 use Rattle.bits.proofs.emptied.Statement.{statement}
 use Rattle.bits.proofs.emptied.Tie as tie
-use Rattle.bits.proofs.emptied.Reads as reads
-use Rattle.bits.proofs.emptied.Lts as lts
 
 shl-result : tie.Need-shl-result
 shl-result c = search needs

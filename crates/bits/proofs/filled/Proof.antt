@@ -5,8 +5,6 @@ use Rattle.lower_laws.specs.Field.{mask, fill-sum, put-lt}
 use borrow.Author.Needs.{needs}
 use Rattle.bits.proofs.filled.Statement.{statement}
 use Rattle.bits.proofs.filled.Tie as tie
-use Rattle.bits.proofs.filled.Reads as reads
-use Rattle.bits.proofs.filled.Lts as lts
 
 shl-result : tie.Need-shl-result
 shl-result c = search needs

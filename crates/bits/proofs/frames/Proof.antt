@@ -4,9 +4,6 @@ use Rattle.lower_laws.specs.Power.{at-most}
 use borrow.Author.Needs.{needs}
 use Rattle.bits.proofs.frames.Statement.{statement}
 use Rattle.bits.proofs.frames.Tie as tie
-use Rattle.bits.proofs.frames.Reads as reads
-use Rattle.bits.proofs.frames.Lts as lts
-use Rattle.bits.proofs.size.Reads as size-reads
 
 size-requires : tie.Need-size-requires
 size-requires c κs = search needs

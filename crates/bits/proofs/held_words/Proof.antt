@@ -10,8 +10,6 @@ use Rattle.rules.specs.Lower.{held, bit}
 use Rattle.lower_laws.specs.Held.{held-more, held-le}
 use Rattle.bits.proofs.held_words.Statement.{statement}
 use Rattle.bits.proofs.held_words.Tie as tie
-use Rattle.bits.proofs.held_words.Reads as reads
-use Rattle.bits.proofs.held_words.Lts as lts
 
 abbrev Inv-loop : tie.InvT-loop
 Inv-loop words at n sum₀ i₀ sum i = (i ≤ n) × (sum ≡ held words (at * 64) (i * 64))

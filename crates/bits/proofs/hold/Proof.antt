@@ -5,11 +5,6 @@ use native.Mathlib.Omega.{arith}
 use borrow.Author.Needs.{needs}
 use Rattle.bits.proofs.hold.Statement.{statement}
 use Rattle.bits.proofs.hold.Tie as tie
-use Rattle.bits.proofs.hold.Reads as reads
-use Rattle.bits.proofs.hold.Lts as lts
-use Rattle.bits.proofs.filled.Reads as filled-reads
-use Rattle.bits.proofs.set_words.Reads as set-words-reads
-use Rattle.bits.proofs.size.Reads as size-reads
 
 size-requires : tie.Need-size-requires
 size-requires c κs = search needs

@@ -4,11 +4,6 @@ use native.Mathlib.Omega.{arith}
 use borrow.Author.Needs.{needs}
 use Rattle.bits.proofs.is_free.Statement.{statement}
 use Rattle.bits.proofs.is_free.Tie as tie
-use Rattle.bits.proofs.is_free.Reads as reads
-use Rattle.bits.proofs.is_free.Lts as lts
-use Rattle.bits.proofs.zero_words.Reads as zero-words-reads
-use Rattle.bits.proofs.part.Reads as part-reads
-use Rattle.bits.proofs.size.Reads as size-reads
 
 size-requires : tie.Need-size-requires
 size-requires c κs = search needs

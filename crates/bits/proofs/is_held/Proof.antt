@@ -6,11 +6,6 @@ use lib.Pow.{pow-pos}
 use borrow.Author.Needs.{needs}
 use Rattle.bits.proofs.is_held.Statement.{statement}
 use Rattle.bits.proofs.is_held.Tie as tie
-use Rattle.bits.proofs.is_held.Reads as reads
-use Rattle.bits.proofs.is_held.Lts as lts
-use Rattle.bits.proofs.full_words.Reads as full-words-reads
-use Rattle.bits.proofs.part.Reads as part-reads
-use Rattle.bits.proofs.size.Reads as size-reads
 
 size-requires : tie.Need-size-requires
 size-requires c κs = search needs

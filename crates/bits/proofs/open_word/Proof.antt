@@ -8,8 +8,6 @@ use Rattle.lower_laws.specs.Run.{run-none, full-more}
 use Rattle.lower_laws.specs.Open.{open-here, open-end}
 use Rattle.bits.proofs.open_word.Statement.{statement}
 use Rattle.bits.proofs.open_word.Tie as tie
-use Rattle.bits.proofs.open_word.Reads as reads
-use Rattle.bits.proofs.open_word.Lts as lts
 
 abbrev Inv-loop : tie.InvT-loop
 Inv-loop words at n i₀ i = (i ≤ n) × (held words (at * 64) (i * 64) ≡ i * 64)

@@ -4,8 +4,6 @@ use lib.Pow.{pow-pos}
 use borrow.Author.Needs.{needs}
 use Rattle.bits.proofs.part.Statement.{statement}
 use Rattle.bits.proofs.part.Tie as tie
-use Rattle.bits.proofs.part.Reads as reads
-use Rattle.bits.proofs.part.Lts as lts
 
 shr-result : tie.Need-shr-result
 shr-result c = search needs

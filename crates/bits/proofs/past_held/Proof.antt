@@ -5,9 +5,6 @@ use native.Mathlib.Omega.{arith}
 use borrow.Author.Needs.{needs}
 use Rattle.bits.proofs.past_held.Statement.{statement}
 use Rattle.bits.proofs.past_held.Tie as tie
-use Rattle.bits.proofs.past_held.Reads as reads
-use Rattle.bits.proofs.past_held.Lts as lts
-use Rattle.bits.proofs.full_words.Reads as full-words-reads
 
 mul-if2 : tie.Need-mul-if2
 mul-if2 c = search needs

@@ -5,11 +5,6 @@ use native.Mathlib.Omega.{arith}
 use borrow.Author.Needs.{needs}
 use Rattle.bits.proofs.release.Statement.{statement}
 use Rattle.bits.proofs.release.Tie as tie
-use Rattle.bits.proofs.release.Reads as reads
-use Rattle.bits.proofs.release.Lts as lts
-use Rattle.bits.proofs.emptied.Reads as emptied-reads
-use Rattle.bits.proofs.set_words.Reads as set-words-reads
-use Rattle.bits.proofs.size.Reads as size-reads
 
 size-requires : tie.Need-size-requires
 size-requires c κs = search needs

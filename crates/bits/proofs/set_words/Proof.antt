@@ -8,8 +8,6 @@ use Rattle.rules.specs.Lower.{setWords}
 use Rattle.lower_laws.specs.Mark.{set-more}
 use Rattle.bits.proofs.set_words.Statement.{statement}
 use Rattle.bits.proofs.set_words.Tie as tie
-use Rattle.bits.proofs.set_words.Reads as reads
-use Rattle.bits.proofs.set_words.Lts as lts
 
 abbrev Inv-loop : tie.InvT-loop
 Inv-loop words₀ at n x i₀ words i = (i ≤ n) × ((length words ≡ length words₀) × (words ≡ setWords words₀ at i x))

@@ -4,8 +4,6 @@ use native.Mathlib.Omega.{arith}
 use borrow.Author.Needs.{needs}
 use Rattle.bits.proofs.size.Statement.{statement}
 use Rattle.bits.proofs.size.Tie as tie
-use Rattle.bits.proofs.size.Reads as reads
-use Rattle.bits.proofs.size.Lts as lts
 
 shl-result : tie.Need-shl-result
 shl-result c = search needs

@@ -6,10 +6,6 @@ use Rattle.lower_laws.specs.Word.{word, word-start, word-free}
 use borrow.Author.Needs.{needs}
 use Rattle.bits.proofs.word_free.Statement.{statement}
 use Rattle.bits.proofs.word_free.Tie as tie
-use Rattle.bits.proofs.word_free.Reads as reads
-use Rattle.bits.proofs.word_free.Lts as lts
-use Rattle.bits.proofs.part.Reads as part-reads
-use Rattle.bits.proofs.size.Reads as size-reads
 
 size-requires : tie.Need-size-requires
 size-requires c κs = search needs

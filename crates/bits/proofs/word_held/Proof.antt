@@ -7,10 +7,6 @@ use Rattle.lower_laws.specs.Word.{word, word-start, word-held}
 use borrow.Author.Needs.{needs}
 use Rattle.bits.proofs.word_held.Statement.{statement}
 use Rattle.bits.proofs.word_held.Tie as tie
-use Rattle.bits.proofs.word_held.Reads as reads
-use Rattle.bits.proofs.word_held.Lts as lts
-use Rattle.bits.proofs.part.Reads as part-reads
-use Rattle.bits.proofs.size.Reads as size-reads
 
 size-requires : tie.Need-size-requires
 size-requires c κs = search needs

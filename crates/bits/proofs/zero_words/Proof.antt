@@ -8,8 +8,6 @@ use Rattle.rules.specs.Lower.{held}
 use Rattle.lower_laws.specs.Run.{run-none, held-some, zero-more}
 use Rattle.bits.proofs.zero_words.Statement.{statement}
 use Rattle.bits.proofs.zero_words.Tie as tie
-use Rattle.bits.proofs.zero_words.Reads as reads
-use Rattle.bits.proofs.zero_words.Lts as lts
 
 abbrev Inv-loop : tie.InvT-loop
 Inv-loop words at n i₀ i = (i ≤ n) × (held words (at * 64) (i * 64) ≡ 0)

@@ -1,15 +1,10 @@
 -- `dumps::dump_trees` meets its contract. Assumes nothing.
 use borrow.Author.Needs.{needs}
-use native.Mathlib.Omega.{arith}
-use Prim.Native.Nat.{ℕ, _+_, _-_, _*_, _≤_, _<_}
+use Prim.Native.Nat.{_-_}
 use mathlib.Core.Path.{_≡_}
-use lib.ListN.{length, getD}
+use lib.ListN.{length}
 use Rattle.dumps.proofs.dump_trees.Statement.{statement}
 use Rattle.dumps.proofs.dump_trees.Tie as tie
-use Rattle.dumps.proofs.dump_trees.Reads as reads
-use Rattle.dumps.proofs.dump_trees.Lts as lts
-use Rattle.dumps.proofs.dump_word.Reads as dump-word-reads
-use Rattle.dumps.proofs.wide.Reads as wide-reads
 
 abbrev Inv-loop : tie.InvT-loop
 Inv-loop trees out₀ at to₀ i₀ t6 out to i = length out ≡ length out₀

@@ -1,14 +1,10 @@
 -- `dumps::dump_words` meets its contract. Assumes nothing.
 use borrow.Author.Needs.{needs}
-use native.Mathlib.Omega.{arith}
-use Prim.Native.Nat.{ℕ, _+_, _-_, _*_, _≤_, _<_}
+use Prim.Native.Nat.{_-_}
 use mathlib.Core.Path.{_≡_}
-use lib.ListN.{length, getD}
+use lib.ListN.{length}
 use Rattle.dumps.proofs.dump_words.Statement.{statement}
 use Rattle.dumps.proofs.dump_words.Tie as tie
-use Rattle.dumps.proofs.dump_words.Reads as reads
-use Rattle.dumps.proofs.dump_words.Lts as lts
-use Rattle.dumps.proofs.dump_word.Reads as dump-word-reads
 
 abbrev Inv-loop : tie.InvT-loop
 Inv-loop name words out₀ at to₀ i₀ out to i = length out ≡ length out₀

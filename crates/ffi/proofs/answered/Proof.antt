@@ -1,11 +1,8 @@
 -- `ffi::answered` meets its contract. Assumes nothing.
-use Rattle.ways.specs.Calls.{tellGet, numberOf}
+use Rattle.ways.specs.Calls.{tellGet}
 use borrow.Author.Needs.{needs}
 use Rattle.ffi.proofs.answered.Statement.{statement}
 use Rattle.ffi.proofs.answered.Tie as tie
-use Rattle.ffi.proofs.answered.Reads as reads
-use Rattle.ffi.proofs.answered.Lts as lts
-use Rattle.numbers.proofs.refusal_number.Reads as refusal-number-reads
 
 enum-known-granted : tie.Need-enum-known-granted
 enum-known-granted c = search needs

@@ -2,9 +2,6 @@
 use borrow.Author.Needs.{needs}
 use Rattle.ffi.proofs.ask.Statement.{statement}
 use Rattle.ffi.proofs.ask.Tie as tie
-use Rattle.ffi.proofs.ask.Reads as reads
-use Rattle.ffi.proofs.ask.Lts as lts
-use Rattle.ffi.proofs.given_of.Reads as given-of-reads
 
 given-of-requires : tie.Need-given-of-requires
 given-of-requires c κs = search needs

@@ -2,8 +2,6 @@
 use Rattle.ffi.specs.Args.{givenOf}
 use Rattle.ffi.proofs.given_of.Statement.{statement}
 use Rattle.ffi.proofs.given_of.Tie as tie
-use Rattle.ffi.proofs.given_of.Reads as reads
-use Rattle.ffi.proofs.given_of.Lts as lts
 
 returns : tie.Need-returns
 unfolding givenOf

@@ -2,10 +2,6 @@
 use borrow.Author.Needs.{needs}
 use Rattle.ffi.proofs.llfree_drain.Statement.{statement}
 use Rattle.ffi.proofs.llfree_drain.Tie as tie
-use Rattle.ffi.proofs.llfree_drain.Reads as reads
-use Rattle.ffi.proofs.llfree_drain.Lts as lts
-use Rattle.numbers.proofs.number.Reads as number-reads
-use Rattle.llfree.proofs.drain.Reads as drain-reads
 
 drain-requires : tie.Need-drain-requires
 drain-requires c κs = search needs

@@ -2,10 +2,6 @@
 use borrow.Author.Needs.{needs}
 use Rattle.ffi.proofs.llfree_figures.Statement.{statement}
 use Rattle.ffi.proofs.llfree_figures.Tie as tie
-use Rattle.ffi.proofs.llfree_figures.Reads as reads
-use Rattle.ffi.proofs.llfree_figures.Lts as lts
-use Rattle.numbers.proofs.number.Reads as number-reads
-use Rattle.statistics.proofs.tell.Reads as tell-reads
 
 tell-requires : tie.Need-tell-requires
 tell-requires c κs = search needs

@@ -3,12 +3,6 @@ use mathlib.Core.Path.{_∙_}
 use borrow.Author.Needs.{needs}
 use Rattle.ffi.proofs.llfree_get.Statement.{statement}
 use Rattle.ffi.proofs.llfree_get.Tie as tie
-use Rattle.ffi.proofs.llfree_get.Reads as reads
-use Rattle.ffi.proofs.llfree_get.Lts as lts
-use Rattle.ffi.proofs.answered.Reads as answered-reads
-use Rattle.ffi.proofs.ask.Reads as ask-reads
-use Rattle.ffi.proofs.name_of.Reads as name-of-reads
-use Rattle.llfree.proofs.get.Reads as get-reads
 
 name-of-requires : tie.Need-name-of-requires
 name-of-requires c κs = search needs

@@ -2,11 +2,6 @@
 use borrow.Author.Needs.{needs}
 use Rattle.ffi.proofs.llfree_put.Statement.{statement}
 use Rattle.ffi.proofs.llfree_put.Tie as tie
-use Rattle.ffi.proofs.llfree_put.Reads as reads
-use Rattle.ffi.proofs.llfree_put.Lts as lts
-use Rattle.ffi.proofs.ask.Reads as ask-reads
-use Rattle.numbers.proofs.number.Reads as number-reads
-use Rattle.llfree.proofs.put.Reads as put-reads
 
 ask-requires : tie.Need-ask-requires
 ask-requires c κs = search needs

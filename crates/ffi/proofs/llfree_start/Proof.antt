@@ -2,10 +2,6 @@
 use borrow.Author.Needs.{needs}
 use Rattle.ffi.proofs.llfree_start.Statement.{statement}
 use Rattle.ffi.proofs.llfree_start.Tie as tie
-use Rattle.ffi.proofs.llfree_start.Reads as reads
-use Rattle.ffi.proofs.llfree_start.Lts as lts
-use Rattle.numbers.proofs.number.Reads as number-reads
-use Rattle.llfree.proofs.start.Reads as start-reads
 
 start-requires : tie.Need-start-requires
 start-requires c κs = search needs

@@ -2,8 +2,6 @@
 use Rattle.ffi.specs.Args.{nameOf}
 use Rattle.ffi.proofs.name_of.Statement.{statement}
 use Rattle.ffi.proofs.name_of.Tie as tie
-use Rattle.ffi.proofs.name_of.Reads as reads
-use Rattle.ffi.proofs.name_of.Lts as lts
 
 returns : tie.Need-returns
 unfolding nameOf

@@ -1,17 +1,9 @@
 -- `lines::decimal` meets its contract. Assumes nothing.
 use borrow.Author.Needs.{needs}
-use native.Mathlib.Omega.{arith}
-use Prim.Native.Nat.{ℕ, _+_, _-_, _*_, _≤_, _<_}
-use mathlib.Core.Path.{_≡_}
-use lib.ListN.{length, getD}
+use Prim.Native.Nat.{_-_}
+use lib.ListN.{length}
 use Rattle.lines.proofs.decimal.Statement.{statement}
 use Rattle.lines.proofs.decimal.Tie as tie
-use Rattle.lines.proofs.decimal.Reads as reads
-use Rattle.lines.proofs.decimal.Lts as lts
-use Rattle.lines.proofs.number.Reads as number-reads
-use Rattle.lines.proofs.plain.Reads as plain-reads
-use Rattle.lines.proofs.wide.Reads as wide-reads
-use Rattle.lines.proofs.with_digit.Reads as with-digit-reads
 
 abbrev Inv-loop : tie.InvT-loop
 Inv-loop w i₀ v₀ i v = Unit {0}

@@ -1,13 +1,10 @@
 -- `lines::is` meets its contract. Assumes nothing.
 use borrow.Author.Needs.{needs}
-use native.Mathlib.Omega.{arith}
-use Prim.Native.Nat.{ℕ, _+_, _-_, _*_, _≤_, _<_}
+use Prim.Native.Nat.{_-_}
 use mathlib.Core.Path.{_≡_}
-use lib.ListN.{length, getD}
+use lib.ListN.{length}
 use Rattle.lines.proofs.is.Statement.{statement}
 use Rattle.lines.proofs.is.Tie as tie
-use Rattle.lines.proofs.is.Reads as reads
-use Rattle.lines.proofs.is.Lts as lts
 
 abbrev Inv-loop : tie.InvT-loop
 Inv-loop w name i₀ i = length w ≡ length name

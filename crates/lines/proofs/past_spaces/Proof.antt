@@ -1,13 +1,9 @@
 -- `lines::past_spaces` meets its contract. Assumes nothing.
 use borrow.Author.Needs.{needs}
-use native.Mathlib.Omega.{arith}
-use Prim.Native.Nat.{ℕ, _+_, _-_, _*_, _≤_, _<_}
-use mathlib.Core.Path.{_≡_}
-use lib.ListN.{length, getD}
+use Prim.Native.Nat.{_-_}
+use lib.ListN.{length}
 use Rattle.lines.proofs.past_spaces.Statement.{statement}
 use Rattle.lines.proofs.past_spaces.Tie as tie
-use Rattle.lines.proofs.past_spaces.Reads as reads
-use Rattle.lines.proofs.past_spaces.Lts as lts
 
 abbrev Inv-loop : tie.InvT-loop
 Inv-loop s at i₀ i = Unit {0}

@@ -7,10 +7,6 @@ use Rattle.ways.specs.Calls.{drain, ifStanding}
 use borrow.Author.Needs.{needs}
 use Rattle.llfree.proofs.drain.Statement.{statement}
 use Rattle.llfree.proofs.drain.Tie as tie
-use Rattle.llfree.proofs.drain.Reads as reads
-use Rattle.llfree.proofs.drain.Lts as lts
-use Rattle.drains.proofs.drain_body.Reads as drain-body-reads
-use Rattle.state.proofs.stands.Reads as stands-reads
 
 stands-requires : tie.Need-stands-requires
 stands-requires c κs = search needs

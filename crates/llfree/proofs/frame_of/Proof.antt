@@ -3,8 +3,6 @@ use Rattle.ways.specs.Calls.{frameOf}
 use borrow.Author.Needs.{needs}
 use Rattle.llfree.proofs.frame_of.Statement.{statement}
 use Rattle.llfree.proofs.frame_of.Tie as tie
-use Rattle.llfree.proofs.frame_of.Reads as reads
-use Rattle.llfree.proofs.frame_of.Lts as lts
 
 enum-told : tie.Need-enum-told
 enum-told c = search needs

@@ -8,14 +8,6 @@ use Rattle.ways.specs.Calls.{get, ifStanding, unless, outcomeOf, tellGet}
 use borrow.Author.Needs.{needs}
 use Rattle.llfree.proofs.get.Statement.{statement}
 use Rattle.llfree.proofs.get.Tie as tie
-use Rattle.llfree.proofs.get.Reads as reads
-use Rattle.llfree.proofs.get.Lts as lts
-use Rattle.llfree.proofs.frame_of.Reads as frame-of-reads
-use Rattle.llfree.proofs.refused.Reads as refused-reads
-use Rattle.llfree.proofs.reply.Reads as reply-reads
-use Rattle.puts.proofs.check.Reads as check-reads
-use Rattle.routes.proofs.routes.Reads as routes-reads
-use Rattle.state.proofs.stands.Reads as stands-reads
 
 stands-requires : tie.Need-stands-requires
 stands-requires c κs = search needs

@@ -8,11 +8,6 @@ use Rattle.ways.specs.Calls.{put, ifStanding, unless, outcomeOf}
 use borrow.Author.Needs.{needs}
 use Rattle.llfree.proofs.put.Statement.{statement}
 use Rattle.llfree.proofs.put.Tie as tie
-use Rattle.llfree.proofs.put.Reads as reads
-use Rattle.llfree.proofs.put.Lts as lts
-use Rattle.puts.proofs.check.Reads as check-reads
-use Rattle.puts.proofs.put_body.Reads as put-body-reads
-use Rattle.state.proofs.stands.Reads as stands-reads
 
 stands-requires : tie.Need-stands-requires
 stands-requires c κs = search needs

@@ -3,8 +3,6 @@ use Rattle.ways.specs.Calls.{close, tellGet, numberOf}
 use borrow.Author.Needs.{needs}
 use Rattle.llfree.proofs.reply.Statement.{statement}
 use Rattle.llfree.proofs.reply.Tie as tie
-use Rattle.llfree.proofs.reply.Reads as reads
-use Rattle.llfree.proofs.reply.Lts as lts
 
 enum-known-got : tie.Need-enum-known-got
 enum-known-got c = search needs

@@ -8,11 +8,6 @@ use Rattle.ways.specs.Calls.{start}
 use borrow.Author.Needs.{needs}
 use Rattle.llfree.proofs.start.Statement.{statement}
 use Rattle.llfree.proofs.start.Tie as tie
-use Rattle.llfree.proofs.start.Reads as reads
-use Rattle.llfree.proofs.start.Lts as lts
-use Rattle.accept.proofs.accepts.Reads as accepts-reads
-use Rattle.starts.proofs.start_body.Reads as start-body-reads
-use Rattle.state.proofs.lengths_exact.Reads as lengths-exact-reads
 
 accepts-requires : tie.Need-accepts-requires
 accepts-requires c κs = search needs

@@ -3,9 +3,6 @@ use Rattle.ways.specs.Calls.{outcomeOf, numberOf}
 use borrow.Author.Needs.{needs}
 use Rattle.numbers.proofs.number.Statement.{statement}
 use Rattle.numbers.proofs.number.Tie as tie
-use Rattle.numbers.proofs.number.Reads as reads
-use Rattle.numbers.proofs.number.Lts as lts
-use Rattle.numbers.proofs.refusal_number.Reads as refusal-number-reads
 
 enum-told : tie.Need-enum-told
 enum-told c = search needs

@@ -3,8 +3,6 @@ use Rattle.ways.specs.Calls.{numberOf}
 use borrow.Author.Needs.{needs}
 use Rattle.numbers.proofs.refusal_number.Statement.{statement}
 use Rattle.numbers.proofs.refusal_number.Tie as tie
-use Rattle.numbers.proofs.refusal_number.Reads as reads
-use Rattle.numbers.proofs.refusal_number.Lts as lts
 
 enum-told : tie.Need-enum-told
 enum-told c = search needs

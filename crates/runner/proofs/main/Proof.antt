@@ -2,10 +2,6 @@
 use borrow.Author.Needs.{needs}
 use Rattle.runner.proofs.main.Statement.{statement}
 use Rattle.runner.proofs.main.Tie as tie
-use Rattle.runner.proofs.main.Reads as reads
-use Rattle.runner.proofs.main.Lts as lts
-use Rattle.runner.proofs.begun.Reads as begun-reads
-use Rattle.runner.proofs.turn.Reads as turn-reads
 
 abbrev Inv-loop : tie.InvT-loop
 Inv-loop table₀ trees₀ locals₀ bits₀ buf₀ out₀ turns₀ r₀ table trees locals bits buf out turns r = Unit {0}

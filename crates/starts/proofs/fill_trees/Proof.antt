@@ -1,5 +1,4 @@
 -- `starts::fill_trees` meets its contract: three fills, or one. Assumes nothing.
-use mathlib.Core.Path.{_≡_}
 use native.Mathlib.Omega.{arith}
 use borrow.Author.Needs.{needs}
 use Rattle.starts.specs.Fill.{all-filled, parts-filled, tree-full, tree-held}

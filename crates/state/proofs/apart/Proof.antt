@@ -2,13 +2,11 @@
 use mathlib.Core.Path.{_≡_, sym, _∙_}
 use mathlib.Core.Bool.{true}
 use mathlib.Core.Logic.{⊎-elim}
-use Prim.Native.Nat.{_-_, _<_, _≤_}
-use native.Mathlib.Omega.{arith}
+use Prim.Native.Nat.{_-_, _≤_}
 use lib.ListN.{length}
 use borrow.Author.Needs.{needs}
 use borrow.Author.Tests.{eqb-true, not-true, not-false}
 use Rattle.rules.specs.Base.{allBelow}
-use Rattle.rules.specs.Words.{localAt}
 use Rattle.ways.specs.Standing.{apartBefore}
 use Rattle.policy_laws.specs.All.{all-none, all-fails, all-done}
 use Rattle.state.specs.Apart.{Marks, mark-block, marks-none, absent-turn, present-turn, marked-fails}

@@ -1,7 +1,7 @@
 -- `statistics::statistics` meets its contract: a walk of its MIR, by hand. The shared references are copied for the call of `tell`;
 -- where the report is done, each store opens the lent rows, puts one row in and closes them again; else the rows are left. Assumes nothing.
 use mathlib.Core.Path.{_≡_, refl, sym, ap, subst, _∙_}
-use mathlib.Core.Bool.{Bool, not}
+use mathlib.Core.Bool.{not}
 use native.Mathlib.Omega.{arith}
 use Prim.Native.Nat.{ℕ, _<_, _^_}
 use mathlib.Core.List.{List, [], _∷_}

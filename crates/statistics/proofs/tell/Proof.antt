@@ -6,8 +6,6 @@ use borrow.Author.Tests.{eq-eqb, ne-eqb}
 use borrow.Author.Needs.{needs}
 use Rattle.statistics.proofs.tell.Statement.{statement}
 use Rattle.statistics.proofs.tell.Tie as tie
-use Rattle.statistics.proofs.tell.Reads as reads
-use Rattle.statistics.proofs.tell.Lts as lts
 
 stands-requires : tie.Need-stands-requires
 stands-requires c κs = search needs

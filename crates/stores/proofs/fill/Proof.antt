@@ -1,13 +1,10 @@
 -- `stores::fill` meets its contract. Assumes nothing.
 use borrow.Author.Needs.{needs}
-use native.Mathlib.Omega.{arith}
-use Prim.Native.Nat.{ℕ, _+_, _-_, _*_, _≤_, _<_}
+use Prim.Native.Nat.{_-_}
 use mathlib.Core.Path.{_≡_}
-use lib.ListN.{length, getD}
+use lib.ListN.{length}
 use Rattle.stores.proofs.fill.Statement.{statement}
 use Rattle.stores.proofs.fill.Tie as tie
-use Rattle.stores.proofs.fill.Reads as reads
-use Rattle.stores.proofs.fill.Lts as lts
 
 abbrev Inv-loop : tie.InvT-loop
 Inv-loop words₀ from count w i₀ left₀ words i left = length words ≡ length words₀

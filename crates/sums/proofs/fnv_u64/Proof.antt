@@ -2,14 +2,10 @@
 use borrow.Author.Needs.{needs}
 use mathlib.Core.Path.{_≡_, refl, sym, ap, _∙_}
 use Prim.Native.Nat.{ℕ, _+_, _-_}
-use native.Mathlib.Omega.{arith}
 use lib.ListN.{length, drop}
-use Rattle.sums.specs.Fnv.{basis, fnvWord, fnvFrom, from-step, from-end}
+use Rattle.sums.specs.Fnv.{basis, fnvFrom, from-step, from-end}
 use Rattle.sums.proofs.fnv_u64.Statement.{statement}
 use Rattle.sums.proofs.fnv_u64.Tie as tie
-use Rattle.sums.proofs.fnv_u64.Reads as reads
-use Rattle.sums.proofs.fnv_u64.Lts as lts
-use Rattle.sums.proofs.with_word.Reads as with-word-reads
 
 abbrev Inv-loop : tie.InvT-loop
 Inv-loop words h₀ i₀ h i = fnvFrom 8 basis words ≡ fnvFrom 8 h (drop i words)

@@ -1,13 +1,10 @@
 -- `sums::times_prime` meets its contract. Assumes nothing.
-use mathlib.Core.Path.{_≡_, refl, sym, ap, _∙_}
+use mathlib.Core.Path.{ap, _∙_}
 use Prim.Native.Nat.{ℕ, _+_, _*_, _%_, _^_}
 use Rattle.sums.specs.Fnv.{halves}
 use borrow.Author.Needs.{needs}
 use Rattle.sums.proofs.times_prime.Statement.{statement}
 use Rattle.sums.proofs.times_prime.Tie as tie
-use Rattle.sums.proofs.times_prime.Reads as reads
-use Rattle.sums.proofs.times_prime.Lts as lts
-use Rattle.std.proofs.num.wrapping_add_u64.Reads as wrapping-add-u64-reads
 
 mul-low : tie.Need-mul-low
 mul-low c = search needs

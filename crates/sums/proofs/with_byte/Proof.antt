@@ -3,9 +3,6 @@ use Rattle.sums.specs.Fnv.{fnvByte}
 use borrow.Author.Needs.{needs}
 use Rattle.sums.proofs.with_byte.Statement.{statement}
 use Rattle.sums.proofs.with_byte.Tie as tie
-use Rattle.sums.proofs.with_byte.Reads as reads
-use Rattle.sums.proofs.with_byte.Lts as lts
-use Rattle.sums.proofs.times_prime.Reads as times-prime-reads
 
 times-prime-requires : tie.Need-times-prime-requires
 times-prime-requires c κs = search needs

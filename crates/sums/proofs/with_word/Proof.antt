@@ -6,9 +6,6 @@ use native.Mathlib.Omega.{arith}
 use Rattle.sums.specs.Fnv.{fnvWord, word-step}
 use Rattle.sums.proofs.with_word.Statement.{statement}
 use Rattle.sums.proofs.with_word.Tie as tie
-use Rattle.sums.proofs.with_word.Reads as reads
-use Rattle.sums.proofs.with_word.Lts as lts
-use Rattle.sums.proofs.with_byte.Reads as with-byte-reads
 
 abbrev Inv-loop : tie.InvT-loop
 Inv-loop h w n now₀ rest₀ left₀ now rest left = fnvWord n h w ≡ fnvWord left now rest

@@ -1,16 +1,13 @@
 -- `texts::append` meets its contract. Assumes nothing.
 use borrow.Author.Needs.{needs}
-use mathlib.Core.Path.{_≡_, refl, sym, ap, _∙_}
-use Prim.Native.Nat.{ℕ, _-_, _≤_}
+use mathlib.Core.Path.{_≡_, refl, ap, _∙_}
+use Prim.Native.Nat.{_-_, _≤_}
 use native.Mathlib.Omega.{arith}
 use lib.ListN.{length, getD, take}
 use lib.Seq.{take-all}
 use Rattle.texts.specs.Text.{Text, text, byte, write, write-next}
 use Rattle.texts.proofs.append.Statement.{statement}
 use Rattle.texts.proofs.append.Tie as tie
-use Rattle.texts.proofs.append.Reads as reads
-use Rattle.texts.proofs.append.Lts as lts
-use Rattle.texts.proofs.put_byte.Reads as put-byte-reads
 
 abbrev Inv-loop : tie.InvT-loop
 Inv-loop out₀ at src i₀ to₀ out i to = (length out ≡ length out₀) × ((i ≤ length src) × (text out to ≡ write (text out₀ at) (take i src)))

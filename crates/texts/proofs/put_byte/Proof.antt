@@ -4,8 +4,6 @@ use Rattle.texts.specs.Text.{byte-full, byte-room}
 use borrow.Author.Needs.{needs}
 use Rattle.texts.proofs.put_byte.Statement.{statement}
 use Rattle.texts.proofs.put_byte.Tie as tie
-use Rattle.texts.proofs.put_byte.Reads as reads
-use Rattle.texts.proofs.put_byte.Lts as lts
 
 returns : tie.Need-returns
 returns c = sym (byte-full _ _ (c .if1 .taken))

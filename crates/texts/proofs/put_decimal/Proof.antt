@@ -1,16 +1,12 @@
 -- `texts::put_decimal` meets its contract. Assumes nothing.
-use mathlib.Core.Path.{_≡_, refl, sym, ap, _∙_}
-use Prim.Native.Nat.{ℕ, _-_, _≤_}
+use mathlib.Core.Path.{ap, _∙_}
+use Prim.Native.Nat.{_-_}
 use native.Mathlib.Omega.{arith}
 use Rattle.texts.specs.Text.{text, write}
 use Rattle.texts.specs.Numbers.{decimal-is}
 use borrow.Author.Needs.{needs}
 use Rattle.texts.proofs.put_decimal.Statement.{statement}
 use Rattle.texts.proofs.put_decimal.Tie as tie
-use Rattle.texts.proofs.put_decimal.Reads as reads
-use Rattle.texts.proofs.put_decimal.Lts as lts
-use Rattle.io.proofs.decimal.Reads as decimal-reads
-use Rattle.texts.proofs.append.Reads as append-reads
 
 decimal-requires : tie.Need-decimal-requires
 decimal-requires c κs = search needs

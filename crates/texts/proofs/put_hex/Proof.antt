@@ -1,16 +1,12 @@
 -- `texts::put_hex` meets its contract. Assumes nothing.
-use mathlib.Core.Path.{_≡_, refl, sym, ap, _∙_}
-use Prim.Native.Nat.{ℕ, _-_, _≤_}
+use mathlib.Core.Path.{ap, _∙_}
+use Prim.Native.Nat.{_-_}
 use native.Mathlib.Omega.{arith}
 use Rattle.texts.specs.Text.{text, write}
 use Rattle.texts.specs.Numbers.{hexadecimal-is}
 use borrow.Author.Needs.{needs}
 use Rattle.texts.proofs.put_hex.Statement.{statement}
 use Rattle.texts.proofs.put_hex.Tie as tie
-use Rattle.texts.proofs.put_hex.Reads as reads
-use Rattle.texts.proofs.put_hex.Lts as lts
-use Rattle.io.proofs.hex.Reads as hex-reads
-use Rattle.texts.proofs.append.Reads as append-reads
 
 hex-requires : tie.Need-hex-requires
 hex-requires c κs = search needs

@@ -3,10 +3,6 @@ use Rattle.texts.specs.Text.{and-then}
 use borrow.Author.Needs.{needs}
 use Rattle.texts.proofs.put_number.Statement.{statement}
 use Rattle.texts.proofs.put_number.Tie as tie
-use Rattle.texts.proofs.put_number.Reads as reads
-use Rattle.texts.proofs.put_number.Lts as lts
-use Rattle.texts.proofs.append.Reads as append-reads
-use Rattle.texts.proofs.put_decimal.Reads as put-decimal-reads
 
 append-requires : tie.Need-append-requires
 append-requires c κs = search needs

@@ -1,18 +1,12 @@
 -- `texts::put_padded` meets its contract. Assumes nothing.
-use mathlib.Core.Path.{_≡_, refl, sym, ap, _∙_}
-use Prim.Native.Nat.{ℕ, _-_, _≤_}
+use mathlib.Core.Path.{ap, _∙_}
+use Prim.Native.Nat.{_-_}
 use native.Mathlib.Omega.{arith}
 use Rattle.texts.specs.Text.{text, write, and-then}
 use Rattle.texts.specs.Numbers.{decimal-is, padded-is}
 use borrow.Author.Needs.{needs}
 use Rattle.texts.proofs.put_padded.Statement.{statement}
 use Rattle.texts.proofs.put_padded.Tie as tie
-use Rattle.texts.proofs.put_padded.Reads as reads
-use Rattle.texts.proofs.put_padded.Lts as lts
-use Rattle.io.proofs.decimal.Reads as decimal-reads
-use Rattle.texts.proofs.append.Reads as append-reads
-use Rattle.texts.proofs.short_of.Reads as short-of-reads
-use Rattle.texts.proofs.spaces.Reads as spaces-reads
 
 decimal-requires : tie.Need-decimal-requires
 decimal-requires c κs = search needs

@@ -1,15 +1,12 @@
 -- `texts::spaces` meets its contract. Assumes nothing.
 use borrow.Author.Needs.{needs}
-use mathlib.Core.Path.{_≡_, refl, sym, ap, _∙_}
+use mathlib.Core.Path.{_≡_, refl, ap, _∙_}
 use Prim.Native.Nat.{ℕ, _-_, _≤_}
 use native.Mathlib.Omega.{arith}
 use lib.ListN.{length}
 use Rattle.texts.specs.Text.{Text, text, byte, write, blanks, blanks-next}
 use Rattle.texts.proofs.spaces.Statement.{statement}
 use Rattle.texts.proofs.spaces.Tie as tie
-use Rattle.texts.proofs.spaces.Reads as reads
-use Rattle.texts.proofs.spaces.Lts as lts
-use Rattle.texts.proofs.put_byte.Reads as put-byte-reads
 
 abbrev Inv-loop : tie.InvT-loop
 Inv-loop out₀ at n i₀ to₀ out i to = (length out ≡ length out₀) × ((i ≤ n) × (text out to ≡ write (text out₀ at) (blanks i)))

@@ -4,9 +4,6 @@ use borrow.Author.Tests.{le-ltb, lt-ltb}
 use borrow.Author.Needs.{needs}
 use Rattle.words.proofs.reserve_or_steal.Statement.{statement}
 use Rattle.words.proofs.reserve_or_steal.Tie as tie
-use Rattle.words.proofs.reserve_or_steal.Reads as reads
-use Rattle.words.proofs.reserve_or_steal.Lts as lts
-use Rattle.words.proofs.ask.Reads as ask-reads
 
 returns : tie.Need-returns
 unfolding reserveOf reserveKind

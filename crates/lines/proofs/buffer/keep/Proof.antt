@@ -1,12 +1,9 @@
 use borrow.Author.Needs.{needs}
-use native.Mathlib.Omega.{arith}
-use Prim.Native.Nat.{ℕ, _+_, _-_, _*_, _≤_, _<_}
+use Prim.Native.Nat.{_-_, _≤_}
 use mathlib.Core.Path.{_≡_}
-use lib.ListN.{length, getD}
+use lib.ListN.{length}
 use Rattle.lines.proofs.buffer.keep.Statement.{statement}
 use Rattle.lines.proofs.buffer.keep.Tie as tie
-use Rattle.lines.proofs.buffer.keep.Reads as reads
-use Rattle.lines.proofs.buffer.keep.Lts as lts
 
 abbrev Inv-loop : tie.InvT-loop
 Inv-loop s₀ from to n i₀ s i = (length s ≡ length s₀) × (i ≤ n) × (n ≡ to - from) × (to ≤ length s₀) × (from ≤ to)

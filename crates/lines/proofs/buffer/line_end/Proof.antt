@@ -1,12 +1,8 @@
 use borrow.Author.Needs.{needs}
-use native.Mathlib.Omega.{arith}
-use Prim.Native.Nat.{ℕ, _+_, _-_, _*_, _≤_, _<_}
-use mathlib.Core.Path.{_≡_}
-use lib.ListN.{length, getD}
+use Prim.Native.Nat.{_-_}
+use lib.ListN.{length}
 use Rattle.lines.proofs.buffer.line_end.Statement.{statement}
 use Rattle.lines.proofs.buffer.line_end.Tie as tie
-use Rattle.lines.proofs.buffer.line_end.Reads as reads
-use Rattle.lines.proofs.buffer.line_end.Lts as lts
 
 abbrev Inv-loop : tie.InvT-loop
 Inv-loop s at i₀ i = Unit {0}

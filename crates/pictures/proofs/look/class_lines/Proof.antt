@@ -1,14 +1,10 @@
 -- `pictures::look::class_lines` meets its contract. Assumes nothing.
 use borrow.Author.Needs.{needs}
-use native.Mathlib.Omega.{arith}
-use Prim.Native.Nat.{ℕ, _+_, _-_, _*_, _≤_, _<_}
+use Prim.Native.Nat.{_-_}
 use mathlib.Core.Path.{_≡_}
-use lib.ListN.{length, getD}
+use lib.ListN.{length}
 use Rattle.pictures.proofs.look.class_lines.Statement.{statement}
 use Rattle.pictures.proofs.look.class_lines.Tie as tie
-use Rattle.pictures.proofs.look.class_lines.Reads as reads
-use Rattle.pictures.proofs.look.class_lines.Lts as lts
-use Rattle.pictures.proofs.look.class_line.Reads as class-line-reads
 
 abbrev Inv-loop : tie.InvT-loop
 Inv-loop h out₀ at to₀ class₀ out to class = length out ≡ length out₀

@@ -1,15 +1,10 @@
 -- `pictures::look::local_lines` meets its contract. Assumes nothing.
 use borrow.Author.Needs.{needs}
-use native.Mathlib.Omega.{arith}
-use Prim.Native.Nat.{ℕ, _+_, _-_, _*_, _≤_, _<_}
+use Prim.Native.Nat.{_-_}
 use mathlib.Core.Path.{_≡_}
-use lib.ListN.{length, getD}
+use lib.ListN.{length}
 use Rattle.pictures.proofs.look.local_lines.Statement.{statement}
 use Rattle.pictures.proofs.look.local_lines.Tie as tie
-use Rattle.pictures.proofs.look.local_lines.Reads as reads
-use Rattle.pictures.proofs.look.local_lines.Lts as lts
-use Rattle.pictures.proofs.look.one_local.Reads as one-local-reads
-use Rattle.words.proofs.local_of.Reads as local-of-reads
 
 abbrev Inv-loop : tie.InvT-loop
 Inv-loop locals out₀ at to₀ i₀ out to i = length out ≡ length out₀

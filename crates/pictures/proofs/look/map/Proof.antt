@@ -1,17 +1,10 @@
 -- `pictures::look::map` meets its contract. Assumes nothing.
 use borrow.Author.Needs.{needs}
-use native.Mathlib.Omega.{arith}
-use Prim.Native.Nat.{ℕ, _+_, _-_, _*_, _≤_, _<_}
+use Prim.Native.Nat.{_-_}
 use mathlib.Core.Path.{_≡_}
-use lib.ListN.{length, getD}
+use lib.ListN.{length}
 use Rattle.pictures.proofs.look.map.Statement.{statement}
 use Rattle.pictures.proofs.look.map.Tie as tie
-use Rattle.pictures.proofs.look.map.Reads as reads
-use Rattle.pictures.proofs.look.map.Lts as lts
-use Rattle.texts.proofs.put_byte.Reads as put-byte-reads
-use Rattle.pictures.proofs.look.before.Reads as before-reads
-use Rattle.pictures.proofs.look.cell.Reads as cell-reads
-use Rattle.words.proofs.tree_of.Reads as tree-of-reads
 
 abbrev Inv-loop : tie.InvT-loop
 Inv-loop trees out₀ at to₀ i₀ out to i = length out ≡ length out₀
