@@ -2,7 +2,9 @@
 
 use std::hint::black_box;
 
-use crate::{Header, both, line, table};
+use crate::measure::both;
+use crate::report::{Kind, Report};
+use crate::side::{Header, MATCH, table};
 
 unsafe extern "C" {
     fn bench_clear(words: *const u64, n: usize) -> usize;
@@ -12,7 +14,7 @@ unsafe extern "C" {
 
 /// The same algorithms as the crates bits, lower and accept have.
 pub mod plain {
-    use crate::Header;
+    use crate::side::Header;
 
     #[inline(never)]
     pub fn clear(words: &[u64]) -> usize {
@@ -136,10 +138,9 @@ pub mod plain {
 }
 
 /// The lower's get of order 0 from a row, its bit clear again.
-fn lower(name: &str, words: &[u64], row: usize) {
+fn lower(to: &mut Report, name: &str, words: &[u64], row: usize) {
     let (mut a, mut b) = (words.to_vec(), words.to_vec());
     let times = both(
-        20000,
         || {
             let f = unsafe { bench_lower_get(a.as_mut_ptr(), a.len(), black_box(row)) };
             a[f / 64] &= !(1 << (f % 64));
@@ -151,10 +152,15 @@ fn lower(name: &str, words: &[u64], row: usize) {
             f
         },
     );
-    line(name, times, Some(1.5));
+    to.add(Kind::Part, name, 0, times);
 }
 
-pub fn run() {
+fn accept(to: &mut Report, name: &str, h: Header, t: &[u32; 64]) {
+    let times = both(|| unsafe { bench_accepts(black_box(h), black_box(t.as_ptr())) as usize }, || plain::accepts(black_box(h), black_box(t)) as usize);
+    to.add(Kind::Part, name, 0, times);
+}
+
+pub fn run(to: &mut Report) {
     let mut r = 0x9E3779B97F4A7C15u64;
     let words: Vec<u64> = (0..32768)
         .map(|_| {
@@ -164,22 +170,16 @@ pub fn run() {
             r
         })
         .collect();
-    let times = both(30, || unsafe { bench_clear(black_box(words.as_ptr()), words.len()) }, || plain::clear(black_box(&words)));
-    line("clear bits of 32,768 words", times, Some(1.1));
-    lower("lower get, order 0, hint at a free frame", &[0; 32 * 8], 100);
+    let times = both(|| unsafe { bench_clear(black_box(words.as_ptr()), words.len()) }, || plain::clear(black_box(&words)));
+    to.add(Kind::Part, "clear bits of 32,768 words", 0, times);
+    lower(to, "lower get, order 0, hint at a free frame", &[0; 32 * 8], 100);
     let mut last = vec![!0u64; 32 * 8];
     last[127] = !0 >> 1;
-    lower("lower get, order 0, only the tree's last frame free, hint at its first row", &last, 96);
-    lower("the same, hint at its last row", &last, 127);
-    let t = table();
-    let h = Header { frames: 16384, default: 1, places: [3, 3, 0, 0, 0, 0, 0, 0] };
-    let accept = |name: &str, h: Header, t: &[u32; 64]| {
-        let times = both(5000, || unsafe { bench_accepts(black_box(h), black_box(t.as_ptr())) as usize }, || plain::accepts(black_box(h), black_box(t)) as usize);
-        line(name, times, Some(1.5));
-    };
-    accept("acceptance test, table T", h, &t);
-    let full = [3 + 16777216 * 255; 64];
-    accept("acceptance test, eight classes, every pair Match", Header { frames: 2097152, default: 7, places: [33; 8] }, &full);
+    lower(to, "lower get, order 0, only the tree's last frame free, hint at its first row", &last, 96);
+    lower(to, "the same, hint at its last row", &last, 127);
+    accept(to, "acceptance test, table T", Header { frames: 16384, default: 1, places: [3, 3, 0, 0, 0, 0, 0, 0] }, &table());
+    let eight = Header { frames: 2097152, default: 7, places: [33; 8] };
+    accept(to, "acceptance test, eight classes, every pair Match", eight, &[MATCH; 64]);
     let demote: [u32; 64] = std::array::from_fn(|i| if i / 8 == i % 8 { 3 } else { 2 });
-    accept("acceptance test, eight classes, Demote but for the own", Header { frames: 2097152, default: 7, places: [33; 8] }, &demote);
+    accept(to, "acceptance test, eight classes, Demote but for the own", eight, &demote);
 }

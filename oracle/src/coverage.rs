@@ -155,7 +155,7 @@ rows! {
     Trees2 "get on 2 trees",
     Trees3 "get on 3 trees",
     TreesSmall "get on 4 to 79 trees",
-    TreesBig "get on 80 to 200 trees",
+    TreesBig "get on 80 trees and more",
     FramesOdd "get with a last tree that is not whole",
     Frames2048 "get with F = 2,048",
     Frames2049 "get with F = 2,049",

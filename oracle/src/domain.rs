@@ -1,5 +1,6 @@
 //! The oracle's own tests beside the Rust: what a start accepts, and which states are in its domain.
 
+use crate::engine::Ask;
 use crate::state::{Pair, State};
 
 fn configured(s: &State) -> impl Iterator<Item = usize> + '_ {
@@ -85,10 +86,26 @@ pub fn sound(s: &State) -> bool {
             }
             claimed += held;
         }
-        let words = &s.bitmap.0[32 * i..32 * i + 32];
+        let words = &s.bitmap[32 * i..32 * i + 32];
         if claimed != words.iter().map(|w| w.count_zeros() as u64).sum::<u64>() {
             return false;
         }
     }
-    (s.frames as usize..2048 * n).all(|f| s.bitmap.0[f / 64] >> (f % 64) & 1 == 1)
+    (s.frames as usize..2048 * n).all(|f| s.bitmap[f / 64] >> (f % 64) & 1 == 1)
+}
+
+/// The number that document 01 gives an Argument, by its order of tests.
+pub fn argument(s: &State, ask: &Ask) -> Option<u8> {
+    let frame = ask.frame.unwrap_or(0);
+    if ask.order > 11 {
+        Some(2)
+    } else if frame as u128 + (1 << ask.order) > s.frames as u128 {
+        Some(3)
+    } else if frame % (1 << ask.order) != 0 {
+        Some(4)
+    } else if ask.class > 7 || s.classes[ask.class as usize].is_none() {
+        Some(5)
+    } else {
+        None
+    }
 }

@@ -6,6 +6,11 @@ pub const NAMES: [&str; 12] = [
     "Done", "Broken", "Order", "Bounds", "Misaligned", "Class", "Local", "Memory", "NotHeld", "Stuck", "Config", "Rows",
 ];
 
+/// A number's name.
+pub fn outcome(number: u8) -> &'static str {
+    NAMES.get(number as usize).unwrap_or(&"no number of document 01")
+}
+
 /// An answer, or why there is none.
 #[derive(Clone, Copy, PartialEq, Eq, Debug)]
 pub enum Said<T> {

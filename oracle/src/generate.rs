@@ -31,8 +31,20 @@ impl Random {
     }
 }
 
+/// The trees of a sequence's header.
+#[derive(Clone, Copy, PartialEq, Eq)]
+pub enum Sizes {
+    /// 1 to 3.
+    Few,
+    /// 1 to 200, what the line form has room for.
+    Usual,
+    /// 201 to 1,024.
+    Wide,
+}
+
 #[derive(Clone, Copy)]
 pub struct Options {
+    pub sizes: Sizes,
     /// Calls that only the rules answer too: damaged states, locals out of range, and the like.
     pub beyond: bool,
     /// Damage in one call of this many, where `beyond`.
@@ -88,10 +100,10 @@ impl<S: Sink> Scenario<'_, S> {
             Command::Pair(r, t, p) => s.table[r][t] == p,
             Command::Lend(l) => s.lend == l,
             Command::Rows(r) => s.rows == r,
-            Command::Entry(i, w) => s.trees.0[i] == w,
+            Command::Entry(i, w) => s.trees[i] == w,
             Command::Local(i, w) => s.locals[i] == w,
-            Command::Word(i, w) => s.bitmap.0[i] == w,
-            Command::Fill(from, count, w) => s.bitmap.0[from..from + count].iter().all(|&v| v == w),
+            Command::Word(i, w) => s.bitmap[i] == w,
+            Command::Fill(from, count, w) => s.bitmap[from..from + count].iter().all(|&v| v == w),
             _ => false,
         };
         if !same {
@@ -101,15 +113,10 @@ impl<S: Sink> Scenario<'_, S> {
 
     fn header(&mut self) {
         let r = &mut self.r;
-        self.n = match r.below(100) {
-            0..8 => 1,
-            8..18 => 2,
-            18..28 => 3,
-            28..55 => 4 + r.below(9) as usize,
-            55..72 => 9 + r.below(24) as usize,
-            72..80 => 33 + r.below(47) as usize,
-            80..87 => r.pick(&[16, 64, 65, 79, 80, 81, 95, 96, 112, 200]),
-            _ => 80 + r.below(121) as usize,
+        self.n = match self.o.sizes {
+            Sizes::Few => 1 + r.below(3) as usize,
+            Sizes::Usual => usual_trees(r),
+            Sizes::Wide => wide_trees(r),
         };
         if self.o.brief && self.n > 100 && r.chance(70) {
             self.n = 80 + r.below(20) as usize;
@@ -220,6 +227,7 @@ impl<S: Sink> Scenario<'_, S> {
     fn damage_header(&mut self) -> Command {
         let s = self.sink.state();
         let (t, l, b) = s.lent();
+        let room = s.room;
         let (frames, d, table) = (s.frames, s.default as usize, s.table);
         let off = |r: &mut Random, v: usize, most: usize| Some(if r.chance(50) { v.saturating_sub(1) } else { (v + 1).min(most) });
         let r = &mut self.r;
@@ -231,9 +239,9 @@ impl<S: Sink> Scenario<'_, S> {
             2 => Command::Class(r.below(8) as usize, r.pick(&[Some(0), Some(1), Some(32)])),
             3 => Command::Default(r.pick(&[8, 200, 7, 6, 5, 0, 1, 2, 54])),
             4 => Command::Default(r.pick(&self.classes) as u8),
-            5 => Command::Lend([off(r, t, 200), None, None]),
+            5 => Command::Lend([off(r, t, room), None, None]),
             6 => Command::Lend([None, off(r, l, 256), None]),
-            7 => Command::Lend([None, None, off(r, b, 6400)]),
+            7 => Command::Lend([None, None, off(r, b, 32 * room)]),
             8 => Command::Pair(c, e, Pair { kind: 3, cut: r.pick(&[2049, 16383, 4096, 2048]), low: 1, high: 2 }),
             9 => Command::Pair(
                 c,
@@ -461,7 +469,7 @@ impl<S: Sink> Scenario<'_, S> {
             let s = self.sink.state();
             let t = self.r.below(self.n as u64) as usize;
             let w = 32 * t + self.r.below(32) as usize;
-            let word = s.bitmap.0[w];
+            let word = s.bitmap[w];
             if word == u64::MAX && self.r.chance(60) {
                 ask.order = self.r.pick(&[0, 3, 6, 6, 7, 9, 10, 11]);
                 ask.frame = Some(64 * w as u64 >> ask.order << ask.order);
@@ -537,7 +545,7 @@ impl<S: Sink> Scenario<'_, S> {
             2 => drop(self.sink.send(Command::Rows(self.r.pick(&[0, 7, 9, 16])))),
             3..6 => {
                 let i = self.r.below(t as u64) as usize;
-                let w = self.sink.state().trees.0[i];
+                let w = self.sink.state().trees[i];
                 let r = &mut self.r;
                 let new = match r.below(6) {
                     0 => w ^ 1 << 28,
@@ -570,7 +578,7 @@ impl<S: Sink> Scenario<'_, S> {
             }
             _ => {
                 let i = if self.r.chance(50) { b - 1 } else { self.r.below(b as u64) as usize };
-                let w = self.sink.state().bitmap.0[i];
+                let w = self.sink.state().bitmap[i];
                 let r = &mut self.r;
                 let new = match r.below(3) {
                     0 => w ^ 1 << r.below(64),
@@ -620,6 +628,27 @@ impl<S: Sink> Scenario<'_, S> {
             self.sink.send(Command::Start(true));
             self.held.clear();
         }
+    }
+}
+
+fn usual_trees(r: &mut Random) -> usize {
+    match r.below(100) {
+        0..8 => 1,
+        8..18 => 2,
+        18..28 => 3,
+        28..55 => 4 + r.below(9) as usize,
+        55..72 => 9 + r.below(24) as usize,
+        72..80 => 33 + r.below(47) as usize,
+        80..87 => r.pick(&[16, 64, 65, 79, 80, 81, 95, 96, 112, 200]),
+        _ => 80 + r.below(121) as usize,
+    }
+}
+
+fn wide_trees(r: &mut Random) -> usize {
+    match r.below(100) {
+        0..40 => 1024,
+        40..60 => r.pick(&[201, 255, 256, 257, 511, 512, 513, 527, 528, 1023]),
+        _ => 201 + r.below(823) as usize,
     }
 }
 

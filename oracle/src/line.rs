@@ -3,7 +3,7 @@
 use std::fmt;
 use std::io::{self, Read, Write};
 
-use crate::engine::{Ask, Counted, Engine, Got, NAMES, Said};
+use crate::engine::{Ask, Counted, Engine, Got, Said, outcome};
 use crate::state::{Pair, ROOM_LOCALS, ROOM_ROWS, ROOM_TREES, ROOM_WORDS, State};
 
 #[derive(Clone, Copy, PartialEq, Eq, Debug)]
@@ -159,6 +159,18 @@ pub enum Answer {
     Text(String),
 }
 
+impl Answer {
+    /// The number of document 01, where it is an answer with one.
+    pub fn number(&self) -> Option<u8> {
+        match self {
+            Answer::Get(Said::Is(g)) => Some(g.number),
+            Answer::Put(Said::Is(n)) | Answer::Drain(Said::Is(n)) | Answer::Start(Said::Is(n)) => Some(*n),
+            Answer::Stats(Said::Is(s)) => Some(s.number),
+            _ => None,
+        }
+    }
+}
+
 fn unsaid<T>(name: &str, said: &Said<T>, f: &mut fmt::Formatter<'_>) -> fmt::Result {
     match said {
         Said::Is(_) => Ok(()),
@@ -171,7 +183,7 @@ fn unsaid<T>(name: &str, said: &Said<T>, f: &mut fmt::Formatter<'_>) -> fmt::Res
 impl fmt::Display for Answer {
     fn fmt(&self, f: &mut fmt::Formatter<'_>) -> fmt::Result {
         let plain = |f: &mut fmt::Formatter<'_>, name, said: &Said<u8>| match said {
-            Said::Is(n) => writeln!(f, "{name} {n} {}", NAMES[*n as usize]),
+            Said::Is(n) => writeln!(f, "{name} {n} {}", outcome(*n)),
             other => unsaid(name, other, f),
         };
         match self {
@@ -181,11 +193,11 @@ impl fmt::Display for Answer {
             Answer::Drain(said) => plain(f, "drain", said),
             Answer::Get(Said::Is(g)) => {
                 let (frame, class) = if g.number == 0 { (Some(g.frame), Some(g.class)) } else { (None, None) };
-                let name = NAMES[g.number as usize];
                 writeln!(
                     f,
-                    "get {} {name} frame {} class {} looks {} tries {}",
+                    "get {} {} frame {} class {} looks {} tries {}",
                     g.number,
+                    outcome(g.number),
                     Maybe(frame),
                     Maybe(class),
                     g.looks,
@@ -194,7 +206,7 @@ impl fmt::Display for Answer {
             }
             Answer::Get(other) => unsaid("get", other, f),
             Answer::Stats(Said::Is(c)) => {
-                writeln!(f, "stats {} {} free {} trees {}", c.number, NAMES[c.number as usize], c.free, c.trees)?;
+                writeln!(f, "stats {} {} free {} trees {}", c.number, outcome(c.number), c.free, c.trees)?;
                 if c.number == 0 {
                     for (class, row) in c.rows.iter().enumerate() {
                         writeln!(f, "row {class} free {} alloc {} used {}", row.free, row.alloc, row.used)?;
@@ -262,10 +274,10 @@ pub fn perform(c: &Command, s: &mut State, engine: &mut impl Engine) -> Answer {
         Command::Pair(r, t, p) => s.table[r][t] = p,
         Command::Lend(l) => s.lend = l,
         Command::Rows(r) => s.rows = r,
-        Command::Entry(i, w) => s.trees.0[i] = w,
+        Command::Entry(i, w) => s.trees[i] = w,
         Command::Local(i, w) => s.locals[i] = w,
-        Command::Word(i, w) => s.bitmap.0[i] = w,
-        Command::Fill(from, count, w) => s.bitmap.0[from..from + count].fill(w),
+        Command::Word(i, w) => s.bitmap[i] = w,
+        Command::Fill(from, count, w) => s.bitmap[from..from + count].fill(w),
         Command::Start(free) => return Answer::Start(engine.start(s, free)),
         Command::Get(ref a) => return Answer::Get(engine.get(s, a)),
         Command::Put(ref a) => return Answer::Put(engine.put(s, a)),

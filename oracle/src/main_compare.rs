@@ -15,11 +15,11 @@ use std::time::Instant;
 
 use coverage::Row;
 use engine::Said;
-use generate::{Options, Sink, scenario};
+use generate::{Options, Sink, Sizes, scenario};
 use line::{Answer, Command, perform};
 use model::Model;
 use rust::Oracle;
-use state::State;
+use state::{ROOM_LOCALS, ROOM_TREES, ROOM_WORDS, State};
 
 struct Both {
     model: Model,
@@ -40,7 +40,7 @@ struct Both {
 
 /// Why the oracle has no answer, where the rules give this one.
 fn why_outside(c: &Command, a: &Answer, no_locals: bool) -> bool {
-    let Some(number) = number(a) else { return false };
+    let Some(number) = a.number() else { return false };
     let (Command::Get(ask) | Command::Put(ask)) = c else { return number == 1 || number == 11 };
     match number {
         1 | 6 => true,
@@ -50,21 +50,12 @@ fn why_outside(c: &Command, a: &Answer, no_locals: bool) -> bool {
     }
 }
 
-fn number(a: &Answer) -> Option<u8> {
-    match a {
-        Answer::Get(Said::Is(g)) => Some(g.number),
-        Answer::Put(Said::Is(n)) | Answer::Drain(Said::Is(n)) | Answer::Start(Said::Is(n)) => Some(*n),
-        Answer::Stats(Said::Is(s)) => Some(s.number),
-        _ => None,
-    }
-}
-
 impl Both {
     /// Looks and tries are within document 01's bounds, and a call leaves a sound state sound.
     fn bounds(&mut self, c: &Command, a: &Answer) -> bool {
-        let broken = number(a) == Some(1);
+        let broken = a.number() == Some(1);
         let kept = self.set_up || !broken;
-        if !broken && !matches!(c, Command::Start(_)) || number(a) == Some(0) {
+        if !broken && !matches!(c, Command::Start(_)) || a.number() == Some(0) {
             self.set_up = false;
         }
         let (Command::Get(ask), Answer::Get(Said::Is(g))) = (c, a) else { return kept };
@@ -157,7 +148,7 @@ fn main() {
         both.log.clear();
         both.log_header();
         let own = both.seed;
-        scenario(&mut both, own, Options { beyond: true, damage: 60, refused: 25, brief: false });
+        scenario(&mut both, own, Options { sizes: Sizes::Usual, beyond: true, damage: 60, refused: 25, brief: false });
         sequences += 1;
     }
     print!("{}", both.model.coverage.table());
@@ -199,14 +190,14 @@ impl Both {
                 self.log.push(Command::Pair(c, e, s.table[c][e]));
             }
         }
-        for i in 0..200 {
-            self.log.push(Command::Entry(i, s.trees.0[i]));
+        for i in 0..ROOM_TREES {
+            self.log.push(Command::Entry(i, s.trees[i]));
         }
-        for i in 0..256 {
+        for i in 0..ROOM_LOCALS {
             self.log.push(Command::Local(i, s.locals[i]));
         }
-        for i in 0..6400 {
-            self.log.push(Command::Word(i, s.bitmap.0[i]));
+        for i in 0..ROOM_WORDS {
+            self.log.push(Command::Word(i, s.bitmap[i]));
         }
     }
 }

@@ -17,7 +17,7 @@ mod state;
 use std::io::Write;
 
 use coverage::{Coverage, Row, TEXTS};
-use generate::{Options, Sink, scenario};
+use generate::{Options, Sink, Sizes, scenario};
 use line::{Answer, Command, perform};
 use misread::MISREADINGS;
 use model::Model;
@@ -109,6 +109,7 @@ fn main() {
     let select = flag("--select");
     let dense = beyond && select;
     let options = Options {
+        sizes: Sizes::Usual,
         beyond,
         damage: if dense { 4 } else { 60 },
         refused: if dense { 200 } else { 25 },

@@ -81,11 +81,11 @@ fn place(s: &State, class: usize, index: usize) -> usize {
     (0..class).map(|c| locals(s, c)).sum::<usize>() + index
 }
 fn entry(s: &State, tree: usize) -> Entry {
-    let w = s.trees.0[tree];
+    let w = s.trees[tree];
     Entry { free: (w & 0x0fff_ffff) as u64, reserved: w & 0x1000_0000 != 0, class: (w >> 29) as usize }
 }
 fn store_entry(s: &mut State, tree: usize, e: Entry) {
-    s.trees.0[tree] = (e.free as u32 & 0x0fff_ffff) | (e.reserved as u32) << 28 | (e.class as u32) << 29;
+    s.trees[tree] = (e.free as u32 & 0x0fff_ffff) | (e.reserved as u32) << 28 | (e.class as u32) << 29;
 }
 fn held_word(w: u64) -> Option<Held> {
     (w >> 63 == 1).then_some(Held { row: w & ((1 << 44) - 1), free: (w >> 44) & ((1 << 19) - 1) })
@@ -94,7 +94,8 @@ fn local(s: &State, class: usize, index: usize) -> Option<Held> {
     held_word(s.locals[place(s, class, index)])
 }
 fn store_local(s: &mut State, class: usize, index: usize, held: Option<Held>) {
-    s.locals[place(s, class, index)] = match held {
+    let at = place(s, class, index);
+    s.locals[at] = match held {
         Some(h) => 1 << 63 | (h.free & ((1 << 19) - 1)) << 44 | (h.row & ((1 << 44) - 1)),
         None => 0,
     };
@@ -204,8 +205,8 @@ impl Model {
                 return Some(Row::BrokenEntry);
             }
         }
-        let mut held_free = [0u64; 200];
-        let mut holders = [0u8; 200];
+        let mut held_free = vec![0u64; n];
+        let mut holders = vec![0u8; n];
         for class in 0..8 {
             for index in 0..locals(s, class) {
                 let w = s.locals[place(s, class, index)];
@@ -237,7 +238,7 @@ impl Model {
             if e.reserved && holders[t] == 0 {
                 return Some(Row::BrokenHolder);
             }
-            let held_bits: u64 = (0..32).map(|w| s.bitmap.0[32 * t + w].count_ones() as u64).sum();
+            let held_bits: u64 = (0..32).map(|w| s.bitmap[32 * t + w].count_ones() as u64).sum();
             if e.free + held_free[t] + held_bits != TREE {
                 return Some(Row::BrokenCount);
             }
@@ -245,7 +246,7 @@ impl Model {
         for w in (s.frames / 64) as usize..32 * n {
             let below = s.frames.saturating_sub(64 * w as u64).min(64);
             let must = if below == 64 { 0 } else { u64::MAX << below };
-            if s.bitmap.0[w] & must != must && !self.wrong(84) {
+            if s.bitmap[w] & must != must && !self.wrong(84) {
                 return Some(Row::BrokenTail);
             }
         }
@@ -1037,14 +1038,14 @@ fn block(frame: u64, order: u64) -> std::ops::Range<usize> {
     first..first + if order > 6 { 1 << (order - 6) } else { 1 }
 }
 fn wholly_free(s: &State, frame: u64, order: u64) -> bool {
-    s.bitmap.0[block(frame, order)].iter().all(|w| w & mask(frame, order) == 0)
+    s.bitmap[block(frame, order)].iter().all(|w| w & mask(frame, order) == 0)
 }
 fn wholly_held(s: &State, frame: u64, order: u64) -> bool {
-    s.bitmap.0[block(frame, order)].iter().all(|w| !w & mask(frame, order) == 0)
+    s.bitmap[block(frame, order)].iter().all(|w| !w & mask(frame, order) == 0)
 }
 fn mark(s: &mut State, frame: u64, order: u64, held: bool) {
     let m = mask(frame, order);
-    for w in &mut s.bitmap.0[block(frame, order)] {
+    for w in &mut s.bitmap[block(frame, order)] {
         *w = if held { *w | m } else { *w & !m };
     }
 }
@@ -1056,7 +1057,7 @@ fn first_free(s: &State, frame: u64, half: u64, order: u64, from: u64) -> Option
     if half == order {
         return wholly_free(s, frame, order).then_some(frame);
     }
-    if half <= 6 && !s.bitmap.0[(frame / 64) as usize] & mask(frame, half) == 0 {
+    if half <= 6 && !s.bitmap[(frame / 64) as usize] & mask(frame, half) == 0 {
         return None;
     }
     let middle = frame + (1 << (half - 1));
@@ -1081,7 +1082,7 @@ impl Engine for Model {
         }
         for w in 0..32 * trees(s) {
             let below = s.frames.saturating_sub(64 * w as u64).min(64);
-            s.bitmap.0[w] = if !free || below == 0 {
+            s.bitmap[w] = if !free || below == 0 {
                 u64::MAX
             } else if below == 64 {
                 0
@@ -1120,8 +1121,7 @@ impl Engine for Model {
         self.count_size(s, ask);
         self.looks = 0;
         self.tries = 0;
-        let (t, l, _) = s.lent();
-        let (trees_before, locals_before) = (s.trees.0, s.locals);
+        let (trees_before, locals_before) = (s.tree_words().to_vec(), s.local_words().to_vec());
         let route = match ask.frame {
             Some(frame) => self.named(s, ask, frame),
             None => self.unnamed(s, ask),
@@ -1134,11 +1134,11 @@ impl Engine for Model {
             }
             Ok(None) => {
                 got.number = 7;
-                let same = s.trees.0[..t] == trees_before[..t] && s.locals[..l] == locals_before[..l];
+                let same = s.tree_words() == trees_before && s.local_words() == locals_before;
                 self.hit(if same { Row::MemorySame } else { Row::MemoryChanged });
                 if self.wrong(8) {
-                    s.trees.0 = trees_before;
-                    s.locals = locals_before;
+                    s.trees[..trees_before.len()].copy_from_slice(&trees_before);
+                    s.locals[..locals_before.len()].copy_from_slice(&locals_before);
                 }
                 if self.wrong(9) {
                     (got.looks, got.tries) = (0, 0);

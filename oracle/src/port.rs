@@ -1,104 +1,138 @@
-//! The port: the library's archive run on a store's words.
+//! The port: the library's archive, run on a store's words or on any header, table and buffers.
 
 use crate::engine::{Ask, Counted, Engine, Got, Said, Tally};
 use crate::state::State;
 
+/// The header as the library takes it: a class's place is its number of locals plus one, 0 where it is unconfigured.
 #[repr(C)]
-#[derive(Clone, Copy)]
-struct Header {
-    frames: usize,
-    default: usize,
-    places: [u8; 8],
+#[derive(Clone, Copy, PartialEq, Eq, Debug)]
+pub struct Header {
+    pub frames: u64,
+    pub default: u64,
+    pub places: [u8; 8],
 }
 
 #[repr(C)]
-struct Answer {
-    number: usize,
-    frame: usize,
-    class: usize,
-    looks: usize,
-    tries: usize,
+struct Reply {
+    number: u64,
+    frame: u64,
+    class: u64,
+    looks: u64,
+    tries: u64,
 }
 
 #[repr(C)]
 #[derive(Clone, Copy)]
 struct Row {
-    free: usize,
-    alloc: usize,
-    used: usize,
+    free: u64,
+    alloc: u64,
+    used: u64,
 }
 
 #[repr(C)]
 struct Report {
-    number: usize,
-    free: usize,
-    trees: usize,
+    number: u64,
+    free: u64,
+    trees: u64,
     rows: [Row; 8],
 }
 
-type Lent = (*mut u32, usize, *mut u64, usize, *mut u64, usize);
-
 unsafe extern "C" {
-    fn llfree_start(h: Header, table: *const u32, t: *mut u32, tn: usize, l: *mut u64, ln: usize, b: *mut u64, bn: usize, all_free: bool) -> usize;
+    fn llfree_start(h: Header, table: *const u32, t: *mut u32, tn: usize, l: *mut u64, ln: usize, b: *mut u64, bn: usize, all_free: bool) -> u64;
     fn llfree_get(h: Header, table: *const u32, t: *mut u32, tn: usize, l: *mut u64, ln: usize, b: *mut u64, bn: usize,
-        named: bool, frame: usize, order: usize, class: usize, given: bool, local: usize) -> Answer;
+        named: bool, frame: u64, order: u64, class: u64, given: bool, local: u64) -> Reply;
     fn llfree_put(h: Header, table: *const u32, t: *mut u32, tn: usize, l: *mut u64, ln: usize, b: *mut u64, bn: usize,
-        frame: usize, order: usize, class: usize, given: bool, local: usize) -> usize;
-    fn llfree_drain(h: Header, table: *const u32, t: *mut u32, tn: usize, l: *mut u64, ln: usize, b: *mut u64, bn: usize) -> usize;
+        frame: u64, order: u64, class: u64, given: bool, local: u64) -> u64;
+    fn llfree_drain(h: Header, table: *const u32, t: *mut u32, tn: usize, l: *mut u64, ln: usize, b: *mut u64, bn: usize) -> u64;
     fn llfree_figures(h: Header, table: *const u32, t: *const u32, tn: usize, l: *const u64, ln: usize, b: *const u64, bn: usize, rows: usize) -> Report;
 }
 
-pub struct Port;
-
-fn header(s: &State) -> Header {
-    Header { frames: s.frames as usize, default: s.default as usize, places: s.classes.map(|k| k.map_or(0, |k| k + 1)) }
+/// What a call is lent.
+pub struct Lent<'a> {
+    pub header: Header,
+    pub table: &'a [u32; 64],
+    pub trees: &'a mut [u32],
+    pub locals: &'a mut [u64],
+    pub bitmap: &'a mut [u64],
 }
 
-fn table(s: &State) -> [u32; 64] {
+/// A number or class as the other runners give it; one that is too large for that is 255, which none of them gives.
+fn small(v: u64) -> u8 {
+    u8::try_from(v).unwrap_or(u8::MAX)
+}
+
+/// A call of the library on what is lent, its own arguments last. A frame or local that is not given is handed over as
+/// the largest number, since the library must not look at it.
+macro_rules! call {
+    ($lent:expr, $name:ident $(, $argument:expr)*) => {{
+        let x = $lent;
+        unsafe {
+            $name(x.header, x.table.as_ptr(), x.trees.as_mut_ptr(), x.trees.len(), x.locals.as_mut_ptr(), x.locals.len(),
+                x.bitmap.as_mut_ptr(), x.bitmap.len() $(, $argument)*)
+        }
+    }};
+}
+
+impl Lent<'_> {
+    pub fn start(self, free: bool) -> u8 {
+        small(call!(self, llfree_start, free))
+    }
+    pub fn get(self, ask: &Ask) -> Got {
+        let (frame, local) = (ask.frame.unwrap_or(u64::MAX), ask.local.unwrap_or(u64::MAX));
+        let a = call!(self, llfree_get, ask.frame.is_some(), frame, ask.order, ask.class, ask.local.is_some(), local);
+        Got { number: small(a.number), frame: a.frame, class: small(a.class), looks: a.looks, tries: a.tries }
+    }
+    pub fn put(self, ask: &Ask) -> u8 {
+        let (frame, local) = (ask.frame.unwrap_or(0), ask.local.unwrap_or(u64::MAX));
+        small(call!(self, llfree_put, frame, ask.order, ask.class, ask.local.is_some(), local))
+    }
+    pub fn drain(self) -> u8 {
+        small(call!(self, llfree_drain))
+    }
+    pub fn stats(self, rows: usize) -> Counted {
+        let a = call!(self, llfree_figures, rows);
+        let rows = a.rows.map(|r| Tally { free: r.free, alloc: r.alloc, used: r.used });
+        Counted { number: small(a.number), free: a.free, trees: a.trees, rows }
+    }
+}
+
+pub fn header(s: &State) -> Header {
+    Header { frames: s.frames, default: s.default as u64, places: s.classes.map(|k| k.map_or(0, |k| k + 1)) }
+}
+
+pub fn table(s: &State) -> [u32; 64] {
     std::array::from_fn(|i| {
         let p = s.table[i / 8][i % 8];
         p.kind as u32 + 4 * p.cut as u32 + 65536 * p.low as u32 + 16777216 * p.high as u32
     })
 }
 
-fn lent(s: &mut State) -> Lent {
+fn lent<'a>(s: &'a mut State, table: &'a [u32; 64]) -> Lent<'a> {
     let (t, l, b) = s.lent();
-    (s.trees.0[..t].as_mut_ptr(), t, s.locals[..l].as_mut_ptr(), l, s.bitmap.0[..b].as_mut_ptr(), b)
+    Lent { header: header(s), table, trees: &mut s.trees[..t], locals: &mut s.locals[..l], bitmap: &mut s.bitmap[..b] }
 }
+
+pub struct Port;
 
 impl Engine for Port {
     fn start(&mut self, s: &mut State, free: bool) -> Said<u8> {
-        let (h, p) = (header(s), table(s));
-        let (t, tn, l, ln, b, bn) = lent(s);
-        Said::Is(unsafe { llfree_start(h, p.as_ptr(), t, tn, l, ln, b, bn, free) } as u8)
+        let table = table(s);
+        Said::Is(lent(s, &table).start(free))
     }
     fn get(&mut self, s: &mut State, ask: &Ask) -> Said<Got> {
-        let (h, p) = (header(s), table(s));
-        let (t, tn, l, ln, b, bn) = lent(s);
-        let a = unsafe {
-            llfree_get(h, p.as_ptr(), t, tn, l, ln, b, bn, ask.frame.is_some(), ask.frame.unwrap_or(0) as usize,
-                ask.order as usize, ask.class as usize, ask.local.is_some(), ask.local.unwrap_or(0) as usize)
-        };
-        Said::Is(Got { number: a.number as u8, frame: a.frame as u64, class: a.class as u8, looks: a.looks as u64, tries: a.tries as u64 })
+        let table = table(s);
+        Said::Is(lent(s, &table).get(ask))
     }
     fn put(&mut self, s: &mut State, ask: &Ask) -> Said<u8> {
-        let (h, p) = (header(s), table(s));
-        let (t, tn, l, ln, b, bn) = lent(s);
-        Said::Is(unsafe {
-            llfree_put(h, p.as_ptr(), t, tn, l, ln, b, bn, ask.frame.unwrap_or(0) as usize,
-                ask.order as usize, ask.class as usize, ask.local.is_some(), ask.local.unwrap_or(0) as usize)
-        } as u8)
+        let table = table(s);
+        Said::Is(lent(s, &table).put(ask))
     }
     fn drain(&mut self, s: &mut State) -> Said<u8> {
-        let (h, p) = (header(s), table(s));
-        let (t, tn, l, ln, b, bn) = lent(s);
-        Said::Is(unsafe { llfree_drain(h, p.as_ptr(), t, tn, l, ln, b, bn) } as u8)
+        let table = table(s);
+        Said::Is(lent(s, &table).drain())
     }
     fn stats(&mut self, s: &mut State) -> Said<Counted> {
-        let (h, p, n) = (header(s), table(s), s.rows);
-        let (t, tn, l, ln, b, bn) = lent(s);
-        let a = unsafe { llfree_figures(h, p.as_ptr(), t, tn, l, ln, b, bn, n) };
-        let rows = a.rows.map(|r| Tally { free: r.free as u64, alloc: r.alloc as u64, used: r.used as u64 });
-        Said::Is(Counted { number: a.number as u8, free: a.free as u64, trees: a.trees as u64, rows })
+        let (table, rows) = (table(s), s.rows);
+        Said::Is(lent(s, &table).stats(rows))
     }
 }

@@ -32,7 +32,9 @@ type Wide = Aligned<u64>;
 pub struct Oracle {
     /// The first one is never lent, so that no lent buffer lies at the beginning of the memory.
     locals: Vec<Wide>,
-    before: Box<State>,
+    /// The lent tree and bitmap words before the call.
+    trees: Vec<u32>,
+    bitmap: Vec<u64>,
 }
 
 enum Fault {
@@ -49,7 +51,7 @@ impl Oracle {
                 usual(info)
             }
         }));
-        Self { locals: vec![Aligned(0); ROOM_LOCALS + 1], before: State::new() }
+        Self { locals: vec![Aligned(0); ROOM_LOCALS + 1], trees: Vec::new(), bitmap: Vec::new() }
     }
 
     /// Runs `f` on the Rust over the store's words. After a panic the words are as before the call.
@@ -59,7 +61,10 @@ impl Oracle {
         init: Init,
         f: impl FnOnce(&LLFree) -> R,
     ) -> Result<R, Fault> {
-        self.before.clone_from_words(s);
+        self.trees.clear();
+        self.trees.extend_from_slice(s.tree_words());
+        self.bitmap.clear();
+        self.bitmap.extend_from_slice(s.bitmap_words());
         TABLE.with(|t| t.set(s.table));
         let classes: Vec<(Class, usize)> = (0..8u8)
             .filter_map(|c| s.classes[c as usize].map(|k| (Class(c), k as usize)))
@@ -73,8 +78,8 @@ impl Oracle {
         let meta = unsafe {
             MetaData {
                 local: from_raw_parts_mut(self.locals.as_mut_ptr().add(1).cast::<u8>(), locals * 64),
-                trees: from_raw_parts_mut(s.trees.0.as_mut_ptr().cast::<u8>(), size_of_val(&s.trees.0)),
-                lower: from_raw_parts_mut(s.bitmap.0.as_mut_ptr().cast::<u8>(), words * 8),
+                trees: from_raw_parts_mut(s.trees.as_mut_ptr().cast::<u8>(), size_of_val(&*s.trees)),
+                lower: from_raw_parts_mut(s.bitmap.as_mut_ptr().cast::<u8>(), words * 8),
             }
         };
         let frames = s.frames as usize;
@@ -92,37 +97,12 @@ impl Oracle {
                 Ok(r)
             }
             Err(e) => {
-                s.copy_words(&self.before);
+                s.trees[..self.trees.len()].copy_from_slice(&self.trees);
+                s.bitmap[..self.bitmap.len()].copy_from_slice(&self.bitmap);
                 let text = e.downcast_ref::<String>().map_or("", |t| t.as_str());
                 Err(if text.starts_with("No locals for class") { Fault::NoLocals } else { Fault::Other })
             }
         }
-    }
-}
-
-impl State {
-    /// Keeps the header's lengths and the lent words.
-    fn clone_from_words(&mut self, other: &State) {
-        self.frames = other.frames;
-        self.classes = other.classes;
-        self.lend = other.lend;
-        self.copy_words(other);
-    }
-}
-
-/// The number that document 01 gives an Argument, by its order of tests.
-fn argument(s: &State, ask: &Ask) -> Option<u8> {
-    let frame = ask.frame.unwrap_or(0);
-    if ask.order > 11 {
-        Some(2)
-    } else if frame as u128 + (1 << ask.order) > s.frames as u128 {
-        Some(3)
-    } else if frame % (1 << ask.order) != 0 {
-        Some(4)
-    } else if ask.class > 7 || s.classes[ask.class as usize].is_none() {
-        Some(5)
-    } else {
-        None
     }
 }
 
@@ -132,7 +112,7 @@ fn outside(s: &State, ask: &Ask) -> bool {
     if !domain::sound(s) {
         return true;
     }
-    match argument(s, ask) {
+    match domain::argument(s, ask) {
         Some(3) => ask.frame.unwrap_or(0).checked_add(1 << ask.order).is_none(),
         Some(5) => ask.class > 7,
         Some(_) => false,
@@ -180,7 +160,7 @@ impl Engine for Oracle {
                 got.class = class;
             }
             Ok(Err(Error::Memory)) => got.number = 7,
-            Ok(Err(_)) => match argument(s, ask) {
+            Ok(Err(_)) => match domain::argument(s, ask) {
                 Some(number) => got.number = number,
                 None => return Said::Disagrees,
             },
@@ -197,7 +177,7 @@ impl Engine for Oracle {
         match self.with(s, Init::None, |a| a.put(frame, request(ask))) {
             Ok(Ok(())) => Said::Is(0),
             Ok(Err(Error::Memory)) => Said::Is(8),
-            Ok(Err(_)) => argument(s, ask).map_or(Said::Disagrees, Said::Is),
+            Ok(Err(_)) => domain::argument(s, ask).map_or(Said::Disagrees, Said::Is),
             Err(fault) => lost(fault),
         }
     }
@@ -231,7 +211,7 @@ impl Engine for Oracle {
         }
         for w in s.local_words().iter().filter(|&w| w >> 63 == 1) {
             let tree = (w & 0xfff_ffff_ffff) as usize / 32;
-            rows[(s.trees.0[tree] >> 29) as usize].used -= w << 1 >> 45;
+            rows[(s.trees[tree] >> 29) as usize].used -= w << 1 >> 45;
         }
         Said::Is(Counted { number: 0, free: stats.free_frames as u64, trees: stats.free_trees as u64, rows })
     }

@@ -1,9 +1,15 @@
 //! The store of the line form: header, table and lent words, right or wrong.
 
+use std::ops::{Deref, DerefMut};
+use std::slice::{from_raw_parts, from_raw_parts_mut};
+
+/// The room of the line form's programs.
 pub const ROOM_TREES: usize = 200;
 pub const ROOM_LOCALS: usize = 256;
 pub const ROOM_WORDS: usize = 6400;
 pub const ROOM_ROWS: usize = 16;
+/// The trees of the drivers' room: the 1,024 that document 01 allows, and some more, so that lengths above them can be lent.
+pub const WIDE_TREES: usize = 1088;
 
 /// One pair of the policy table: kind 0 Invalid, 1 Steal, 2 Demote, 3 Match.
 #[derive(Clone, Copy, PartialEq, Eq, Debug, Default)]
@@ -19,11 +25,33 @@ pub struct Pair {
 #[repr(C, align(64))]
 pub struct Aligned<T>(pub T);
 
+/// A buffer of words as the Rust modules want it.
+#[derive(Clone)]
+pub struct Words<T>(Vec<Aligned<[T; 64]>>);
+impl<T: Copy + Default> Words<T> {
+    fn new(count: usize) -> Self {
+        Words(vec![Aligned([T::default(); 64]); count.div_ceil(64)])
+    }
+}
+impl<T> Deref for Words<T> {
+    type Target = [T];
+    fn deref(&self) -> &[T] {
+        unsafe { from_raw_parts(self.0.as_ptr().cast(), 64 * self.0.len()) }
+    }
+}
+impl<T> DerefMut for Words<T> {
+    fn deref_mut(&mut self) -> &mut [T] {
+        unsafe { from_raw_parts_mut(self.0.as_mut_ptr().cast(), 64 * self.0.len()) }
+    }
+}
+
 #[derive(Clone)]
 pub struct State {
-    pub trees: Aligned<[u32; 256]>,
-    pub bitmap: Aligned<[u64; ROOM_WORDS]>,
-    pub locals: [u64; ROOM_LOCALS],
+    /// An exact length of more trees than this cannot be lent.
+    pub room: usize,
+    pub trees: Words<u32>,
+    pub bitmap: Words<u64>,
+    pub locals: Words<u64>,
     pub frames: u64,
     pub default: u8,
     /// The number of locals of each configured class.
@@ -36,11 +64,18 @@ pub struct State {
 }
 
 impl State {
+    /// A store of the line form's room.
     pub fn new() -> Box<State> {
+        State::with_room(ROOM_TREES)
+    }
+    /// A store with room for so many trees.
+    pub fn with_room(trees: usize) -> Box<State> {
         Box::new(State {
-            trees: Aligned([0; 256]),
-            bitmap: Aligned([0; ROOM_WORDS]),
-            locals: [0; ROOM_LOCALS],
+            room: trees,
+            trees: Words::new(trees),
+            bitmap: Words::new(32 * trees),
+            // One more, so that a length above the most can be lent.
+            locals: Words::new(ROOM_LOCALS + 1),
             frames: 0,
             default: 0,
             classes: [None; 8],
@@ -51,9 +86,9 @@ impl State {
     }
 
     /// Lengths of the lent tree words, local words and bitmap words. An exact length that does not
-    /// fit is cut to the program's room.
+    /// fit is cut to the room.
     pub fn lent(&self) -> (usize, usize, usize) {
-        let trees = (self.frames / 2048 + (self.frames % 2048 != 0) as u64).min(ROOM_TREES as u64) as usize;
+        let trees = (self.frames / 2048 + (self.frames % 2048 != 0) as u64).min(self.room as u64) as usize;
         let locals: usize = self.classes.iter().flatten().map(|&k| k as usize).sum();
         (
             self.lend[0].unwrap_or(trees),
@@ -63,13 +98,13 @@ impl State {
     }
 
     pub fn tree_words(&self) -> &[u32] {
-        &self.trees.0[..self.lent().0]
+        &self.trees[..self.lent().0]
     }
     pub fn local_words(&self) -> &[u64] {
         &self.locals[..self.lent().1]
     }
     pub fn bitmap_words(&self) -> &[u64] {
-        &self.bitmap.0[..self.lent().2]
+        &self.bitmap[..self.lent().2]
     }
 
     /// Whether every lent word is the same.
@@ -81,8 +116,8 @@ impl State {
     /// Takes the lent words of another store with the same header.
     pub fn copy_words(&mut self, other: &State) {
         let (t, l, b) = other.lent();
-        self.trees.0[..t].copy_from_slice(&other.trees.0[..t]);
+        self.trees[..t].copy_from_slice(&other.trees[..t]);
         self.locals[..l].copy_from_slice(&other.locals[..l]);
-        self.bitmap.0[..b].copy_from_slice(&other.bitmap.0[..b]);
+        self.bitmap[..b].copy_from_slice(&other.bitmap[..b]);
     }
 }

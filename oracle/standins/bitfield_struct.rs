@@ -1,111 +1,218 @@
-//! Stand-in for the crate `bitfield_struct`: the attribute `#[bitfield(u32)]` on a struct of plain fields.
-//!
-//! Fields take their bits from the lowest bit up. A field with `#[bits(N)]` has N bits, a `bool`
-//! has one. `usize` and `bool` are converted directly, any other type by its `from_bits` and
-//! `into_bits`. A value too wide for its field is cut to the field, as in a release build.
-
+//! Stand-in for the registry crate `bitfield_struct`: the attribute
+//! `#[bitfield(uN)]` as far as the repository uses it. Fields lie from bit 0
+//! upward in the order written. For a field `x` it makes `x()`, `with_x()`,
+//! `set_x()`, `X_BITS` and `X_OFFSET`; for the struct `new()` (all zero),
+//! `from_bits`, `into_bits`, both `From`s, `Default` and `Debug`.
+//! A value too wide for its field is cut to the field, as the crate does in
+//! a release build.
 extern crate proc_macro;
+
 use proc_macro::{Delimiter, TokenStream, TokenTree};
 
 struct Field {
+    vis: String,
     name: String,
-    kind: String,
-    bits: usize,
+    ty: String,
+    bits: Option<u32>,
+}
+
+fn fail(what: &str) -> TokenStream {
+    format!("::core::compile_error!({what:?});")
+        .parse()
+        .unwrap()
+}
+
+fn int_bits(ty: &str) -> Option<u32> {
+    match ty {
+        "bool" => Some(1),
+        "u8" => Some(8),
+        "u16" => Some(16),
+        "u32" => Some(32),
+        "u64" => Some(64),
+        _ => None,
+    }
+}
+
+/// Takes `pub` or `pub(..)` off the front.
+fn vis(t: &[TokenTree], at: &mut usize) -> String {
+    let mut out = String::new();
+    if matches!(t.get(*at), Some(TokenTree::Ident(i)) if i.to_string() == "pub") {
+        out.push_str("pub");
+        *at += 1;
+        if let Some(TokenTree::Group(g)) = t.get(*at)
+            && g.delimiter() == Delimiter::Parenthesis
+        {
+            out.push_str(&g.to_string());
+            *at += 1;
+        }
+    }
+    out
+}
+
+/// Takes the attributes off the front, as groups.
+fn attrs(t: &[TokenTree], at: &mut usize) -> Vec<proc_macro::Group> {
+    let mut out = Vec::new();
+    while let (Some(TokenTree::Punct(p)), Some(TokenTree::Group(g))) = (t.get(*at), t.get(*at + 1))
+        && p.as_char() == '#'
+    {
+        out.push(g.clone());
+        *at += 2;
+    }
+    out
+}
+
+fn fields(body: TokenStream) -> Result<Vec<Field>, String> {
+    let t: Vec<_> = body.into_iter().collect();
+    let mut at = 0;
+    let mut out = Vec::new();
+    while at < t.len() {
+        let mut bits = None;
+        for a in attrs(&t, &mut at) {
+            let inner: Vec<_> = a.stream().into_iter().collect();
+            if let [TokenTree::Ident(i), TokenTree::Group(g)] = &inner[..]
+                && i.to_string() == "bits"
+            {
+                let n = g.stream().to_string();
+                bits = Some(
+                    n.parse()
+                        .map_err(|_| format!("bits({n}): a number is needed"))?,
+                );
+            }
+        }
+        let vis = vis(&t, &mut at);
+        let Some(TokenTree::Ident(name)) = t.get(at) else {
+            return Err("a field name is needed".into());
+        };
+        at += 2; // the name and the colon
+        let mut ty = TokenStream::new();
+        let mut depth = 0;
+        while let Some(tt) = t.get(at) {
+            if let TokenTree::Punct(p) = tt {
+                match p.as_char() {
+                    '<' => depth += 1,
+                    '>' => depth -= 1,
+                    ',' if depth == 0 => break,
+                    _ => {}
+                }
+            }
+            ty.extend([tt.clone()]);
+            at += 1;
+        }
+        at += 1; // the comma
+        out.push(Field {
+            vis,
+            name: name.to_string(),
+            ty: ty.to_string(),
+            bits,
+        });
+    }
+    Ok(out)
 }
 
 #[proc_macro_attribute]
-pub fn bitfield(args: TokenStream, item: TokenStream) -> TokenStream {
-    let word = args.to_string();
-    let mut head = Vec::new();
-    let mut name = String::new();
-    let mut fields = Vec::new();
-    let mut after_struct = false;
-    for token in item {
-        match &token {
-            TokenTree::Ident(i) if i.to_string() == "struct" => after_struct = true,
-            TokenTree::Ident(i) if after_struct => name = i.to_string(),
-            TokenTree::Group(g) if after_struct && g.delimiter() == Delimiter::Brace => {
-                fields = read_fields(g.stream())
-            }
-            _ => head.push(token),
-        }
-    }
-    let head: TokenStream = head.into_iter().collect();
-    let mut body = String::new();
-    let mut debug = String::new();
+pub fn bitfield(attr: TokenStream, item: TokenStream) -> TokenStream {
+    let int = attr.to_string();
+    let Some(width) = int_bits(&int).filter(|w| *w >= 8) else {
+        return fail("bitfield: one of u8, u16, u32, u64 is needed");
+    };
+    let t: Vec<_> = item.into_iter().collect();
     let mut at = 0;
-    for Field { name, kind, bits } in &fields {
-        let upper = name.to_uppercase();
-        let (from, into) = match kind.as_str() {
-            "bool" => ("raw != 0".to_string(), format!("v as {word}")),
-            "usize" => ("raw as usize".to_string(), format!("v as {word}")),
-            _ => (format!("{kind}::from_bits(raw as _)"), format!("v.into_bits() as {word}")),
-        };
-        body += &format!(
-            "const {upper}_BITS: usize = {bits};
-             const {upper}_MASK: {word} = (1 << {bits}) - 1;
-             fn {name}(self) -> {kind} {{ let raw = (self.0 >> {at}) & Self::{upper}_MASK; {from} }}
-             fn with_{name}(self, v: {kind}) -> Self {{
-                 let raw = ({into}) & Self::{upper}_MASK;
-                 Self((self.0 & !(Self::{upper}_MASK << {at})) | (raw << {at}))
-             }}
-             fn set_{name}(&mut self, v: {kind}) {{ *self = self.with_{name}(v); }}
-            "
-        );
-        debug += &format!(".field(\"{name}\", &self.{name}())");
-        at += bits;
+    let kept: String = attrs(&t, &mut at)
+        .iter()
+        .map(|g| format!("#{g}\n"))
+        .collect();
+    let vis = vis(&t, &mut at);
+    let (Some(TokenTree::Ident(kw)), Some(TokenTree::Ident(name)), Some(TokenTree::Group(body))) =
+        (t.get(at), t.get(at + 1), t.get(at + 2))
+    else {
+        return fail("bitfield: a struct with named fields is needed");
+    };
+    if kw.to_string() != "struct" || body.delimiter() != Delimiter::Brace {
+        return fail("bitfield: a struct with named fields is needed");
     }
-    let text = format!(
-        "{head} #[derive(Clone, Copy)] #[repr(transparent)] struct {name}({word});
+    let fields = match fields(body.stream()) {
+        Ok(f) => f,
+        Err(e) => return fail(&e),
+    };
+
+    let mut methods = String::new();
+    let mut debug = String::new();
+    let mut offset = 0;
+    for Field {
+        vis,
+        name,
+        ty,
+        bits,
+    } in &fields
+    {
+        let Some(bits) = bits.or(int_bits(ty)) else {
+            return fail(&format!("bitfield: field {name} needs bits"));
+        };
+        let upper = name.to_uppercase();
+        let (from, into) = match ty.as_str() {
+            "bool" => ("bits != 0".to_string(), format!("value as {int}")),
+            "u8" | "u16" | "u32" | "u64" | "usize" => {
+                (format!("bits as {ty}"), format!("value as {int}"))
+            }
+            _ => (
+                format!("<{ty}>::from_bits(bits as _)"),
+                format!("<{ty}>::into_bits(value) as {int}"),
+            ),
+        };
+        methods += &format!(
+            "{vis} const {upper}_BITS: usize = {bits};
+             {vis} const {upper}_OFFSET: usize = {offset};
+             {vis} const fn {name}(&self) -> {ty} {{
+                 let bits = (self.0 >> {offset}) & (<{int}>::MAX >> ({width} - {bits}));
+                 {from}
+             }}
+             {vis} const fn with_{name}(self, value: {ty}) -> Self {{
+                 let mask = <{int}>::MAX >> ({width} - {bits});
+                 let bits = {into};
+                 debug_assert!(bits <= mask);
+                 Self(self.0 & !(mask << {offset}) | (bits & mask) << {offset})
+             }}
+             {vis} const fn set_{name}(&mut self, value: {ty}) {{
+                 *self = self.with_{name}(value);
+             }}\n"
+        );
+        debug += &format!(".field({name:?}, &self.{name}())");
+        offset += bits;
+    }
+    if offset != width {
+        return fail(&format!(
+            "bitfield: the fields take {offset} of {width} bits"
+        ));
+    }
+
+    format!(
+        "{kept}
+         #[derive(Clone, Copy)]
+         #[repr(transparent)]
+         {vis} struct {name}({int});
          #[allow(dead_code)]
-         impl {name} {{ const fn new() -> Self {{ Self(0) }} {body} }}
-         impl From<{word}> for {name} {{ fn from(v: {word}) -> Self {{ Self(v) }} }}
-         impl From<{name}> for {word} {{ fn from(v: {name}) -> Self {{ v.0 }} }}
+         impl {name} {{
+             {vis} const fn new() -> Self {{ Self(0) }}
+             {vis} const fn from_bits(bits: {int}) -> Self {{ Self(bits) }}
+             {vis} const fn into_bits(self) -> {int} {{ self.0 }}
+             {methods}
+         }}
+         impl ::core::default::Default for {name} {{
+             fn default() -> Self {{ Self::new() }}
+         }}
+         impl ::core::convert::From<{int}> for {name} {{
+             fn from(bits: {int}) -> Self {{ Self(bits) }}
+         }}
+         impl ::core::convert::From<{name}> for {int} {{
+             fn from(v: {name}) -> {int} {{ v.0 }}
+         }}
          impl ::core::fmt::Debug for {name} {{
              fn fmt(&self, f: &mut ::core::fmt::Formatter<'_>) -> ::core::fmt::Result {{
-                 f.debug_struct(\"{name}\"){debug}.finish()
+                 f.debug_struct({text:?}){debug}.finish()
              }}
-         }}"
-    );
-    text.parse().expect("bitfield: the made text is Rust")
-}
-
-/// Reads `#[bits(N)] name: kind,` and `name: bool,`; other attributes (documentation) are passed over.
-fn read_fields(body: TokenStream) -> Vec<Field> {
-    let mut fields = Vec::new();
-    let mut tokens = body.into_iter().peekable();
-    let mut bits = None;
-    while let Some(token) = tokens.next() {
-        match token {
-            TokenTree::Punct(p) if p.as_char() == '#' => {
-                let Some(TokenTree::Group(g)) = tokens.next() else { panic!("bitfield: attribute") };
-                let mut inner = g.stream().into_iter();
-                if let Some(TokenTree::Ident(i)) = inner.next() {
-                    if i.to_string() == "bits" {
-                        let Some(TokenTree::Group(n)) = inner.next() else { panic!("bitfield: bits") };
-                        bits = Some(n.stream().to_string().parse::<usize>().expect("bitfield: a number"));
-                    }
-                }
-            }
-            TokenTree::Ident(i) => {
-                let name = i.to_string();
-                match tokens.next() {
-                    Some(TokenTree::Punct(p)) if p.as_char() == ':' => {}
-                    _ => panic!("bitfield: a field is NAME: TYPE"),
-                }
-                let mut kind = String::new();
-                for t in tokens.by_ref() {
-                    match t {
-                        TokenTree::Punct(p) if p.as_char() == ',' => break,
-                        t => kind += &t.to_string(),
-                    }
-                }
-                let width = if kind == "bool" { 1 } else { bits.expect("bitfield: a width") };
-                bits = None;
-                fields.push(Field { name, kind, bits: width });
-            }
-            _ => panic!("bitfield: a field is expected"),
-        }
-    }
-    fields
+         }}",
+        text = name.to_string(),
+    )
+    .parse()
+    .unwrap()
 }

@@ -1,0 +1,137 @@
+//! What was measured, as tables in Markdown; whether each goal is met is worked out here.
+
+use crate::calls::TREES;
+use crate::measure::Times;
+use crate::stack::{Deepest, KINDS};
+
+#[derive(Clone, Copy, PartialEq)]
+pub enum Kind {
+    /// A single part against the same algorithm in plain Rust.
+    Part,
+    Call,
+    Worst,
+}
+
+/// The greatest ratio that is wanted.
+fn goal(kind: Kind) -> f64 {
+    match kind {
+        Kind::Call => 1.2,
+        Kind::Part | Kind::Worst => 1.5,
+    }
+}
+
+const GROWTH: f64 = 18.0;
+const STACK: usize = 4096;
+
+pub struct Row {
+    pub kind: Kind,
+    pub name: String,
+    /// By number of trees, 0 for a part.
+    pub times: Vec<(usize, Times)>,
+}
+
+impl Row {
+    pub fn at(&self, n: usize) -> Option<Times> {
+        self.times.iter().find(|t| t.0 == n).map(|t| t.1)
+    }
+    /// Time of the port at 1,024 trees over that at 64.
+    fn growth(&self) -> Option<f64> {
+        Some(self.at(1024)?.port / self.at(64)?.port)
+    }
+}
+
+#[derive(Default)]
+pub struct Report {
+    pub rows: Vec<Row>,
+}
+
+fn met(yes: bool) -> &'static str {
+    if yes { "met" } else { "NOT met" }
+}
+
+/// A number of microseconds with three figures that count.
+fn micros(seconds: f64) -> String {
+    let us = seconds * 1e6;
+    let digits = if us < 10.0 { 3 } else { 1 };
+    format!("{us:.digits$}")
+}
+
+/// A number with so many digits after the point, in bold where it is above the goal.
+fn bold(value: f64, digits: usize, goal: f64) -> String {
+    if value > goal { format!("**{value:.digits$}**") } else { format!("{value:.digits$}") }
+}
+
+impl Report {
+    /// Takes a case's times in; of several the best of each side stays.
+    pub fn add(&mut self, kind: Kind, name: &str, trees: usize, times: Times) {
+        eprintln!("{name}, {trees} trees: {} {} {:.2}", micros(times.port), micros(times.rust), times.ratio());
+        let at = self.rows.iter().position(|r| r.kind == kind && r.name == name).unwrap_or(self.rows.len());
+        if at == self.rows.len() {
+            self.rows.push(Row { kind, name: name.into(), times: vec![] });
+        }
+        let row = &mut self.rows[at].times;
+        match row.iter_mut().find(|t| t.0 == trees) {
+            Some((_, t)) => *t = Times { port: t.port.min(times.port), rust: t.rust.min(times.rust) },
+            None => row.push((trees, times)),
+        }
+    }
+
+    fn of(&self, kind: Kind) -> impl Iterator<Item = &Row> {
+        self.rows.iter().filter(move |r| r.kind == kind)
+    }
+
+    /// A line a row: by number of trees the ratio port / Rust and the microseconds of the port, then the growth.
+    /// What is above its goal stands in bold.
+    pub fn table(&self, kind: Kind) -> String {
+        let trees: Vec<usize> = TREES.into_iter().filter(|&n| self.of(kind).any(|r| r.at(n).is_some())).collect();
+        let heads: Vec<String> = trees.iter().map(|&n| thousands(n)).collect();
+        let mut s = format!("| trees | {} | 1,024 / 64 |\n|---|{}\n", heads.join(" | "), "---:|".repeat(trees.len() + 1));
+        let cell = |t: Times| format!("{} · {}", bold(t.ratio(), 2, goal(kind)), micros(t.port));
+        for r in self.of(kind) {
+            let cells: Vec<String> = trees.iter().map(|&n| r.at(n).map_or(String::new(), cell)).collect();
+            s += &format!("| {} | {} | {} |\n", r.name, cells.join(" | "), r.growth().map_or(String::new(), |g| bold(g, 1, GROWTH)));
+        }
+        s
+    }
+
+    pub fn parts(&self) -> String {
+        let mut s = String::from("| | port, us | Rust, us | port / Rust |\n|---|---:|---:|---:|\n");
+        for r in self.of(Kind::Part) {
+            let t = r.times[0].1;
+            s += &format!("| {} | {} | {} | {:.2} |\n", r.name, micros(t.port), micros(t.rust), t.ratio());
+        }
+        s
+    }
+
+    /// Each goal, the worst figure, and where that was.
+    pub fn goals(&self, stack: &[Deepest]) -> String {
+        let mut s = String::from("| Goal | Worst | Where | |\n|---|---:|---|---|\n");
+        for (kind, what) in [(Kind::Call, "calls"), (Kind::Worst, "worst cases")] {
+            let all: Vec<(f64, &str, usize)> = self.of(kind).flat_map(|r| r.times.iter().map(|t| (t.1.ratio(), r.name.as_str(), t.0))).collect();
+            let worst = all.iter().max_by(|a, b| a.0.total_cmp(&b.0)).expect("cases");
+            let above = all.iter().filter(|a| a.0 > goal(kind)).count();
+            let name = format!("{}, {} trees; {above} of {} above", worst.1, thousands(worst.2), all.len());
+            s += &format!("| {what}: port / Rust at most {} | {:.2} | {name} | {} |\n", goal(kind), worst.0, met(above == 0));
+        }
+        let grown: Vec<(f64, &str)> = self.rows.iter().filter_map(|r| Some((r.growth()?, r.name.as_str()))).collect();
+        let worst = grown.iter().max_by(|a, b| a.0.total_cmp(&b.0)).expect("cases");
+        let above = grown.iter().filter(|g| g.0 > GROWTH).count();
+        s += &format!("| time at 1,024 trees at most {GROWTH} times that at 64 | {:.1} | {}; {above} of {} above | {} |\n", worst.0, worst.1, grown.len(), met(above == 0));
+        let (at, deepest) = stack.iter().enumerate().max_by_key(|d| d.1.bytes).expect("calls");
+        s += &format!("| stack of a call at most {} bytes | {} | {} | {} |\n", thousands(STACK), thousands(deepest.bytes), KINDS[at], met(deepest.bytes <= STACK));
+        s
+    }
+
+    pub fn stack(&self, stack: &[Deepest]) -> String {
+        let mut s = String::from("| Call | bytes | calls tried | the deepest |\n|---|---:|---:|---|\n");
+        for (name, d) in KINDS.iter().zip(stack) {
+            s += &format!("| {name} | {} | {} | {} |\n", thousands(d.bytes), thousands(d.calls), d.which);
+        }
+        s
+    }
+}
+
+/// A number with a comma before each three digits.
+pub fn thousands(n: usize) -> String {
+    if n < 1000 { n.to_string() } else { format!("{},{:03}", thousands(n / 1000), n % 1000) }
+}
