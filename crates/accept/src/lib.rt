@@ -1,7 +1,7 @@
 // The acceptance test of header and policy table, made at each exported call: one walk over the rows of the table.
 use rules::Header;
 ghost use mathlib.Core.Path.{_≡_};
-ghost use Prim.Native.Nat.{_<_};
+ghost use Prim.Native.Nat.{_*_, _+_, _<_};
 ghost use Rattle.rules.specs.Base.{allBelow};
 ghost use Rattle.rules.specs.Words.{config, configured};
 ghost use Rattle.rules.specs.Policy.{pairOf, kindAt, pairFormed, accepted};

@@ -1,4 +1,5 @@
 // The commands of the line form, each read from the words after its name. No function asks more of its arguments than their types.
+ghost use Prim.Native.Nat.{_+_};
 use lines::Arg;
 use lines::Args;
 use rules::Given;

@@ -1,5 +1,5 @@
 // The lines in an input buffer: where one ends, and moving what is left to the start.
-ghost use Prim.Native.Nat.{_≤_};
+ghost use Prim.Native.Nat.{_+_, _≤_};
 
 // The place of the first line feed at or after `at`, or the length.
 pub fn line_end(s: &[u8], at: usize) -> usize

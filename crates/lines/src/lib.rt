@@ -3,7 +3,7 @@ mod buffer;
 
 pub use buffer::keep;
 pub use buffer::line_end;
-ghost use Prim.Native.Nat.{_≤_};
+ghost use Prim.Native.Nat.{_<_, _+_, _≤_};
 
 // A word of a line, by its kind: 0 none is left, 1 `-`, 2 a number, 3 something else.
 pub struct Arg {

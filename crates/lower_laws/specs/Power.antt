@@ -1,4 +1,5 @@
 -- Powers of two as the code makes them, and where an aligned block lies. Assumes nothing.
+use lib.Dec.{lit<}
 use mathlib.Core.Path.{_≡_, sym, ap, _∙_}
 use Prim.Native.Nat.{ℕ, zero, suc, _+_, _-_, _*_, _/_, _%_, _^_, _<_, _≤_}
 use native.Mathlib.Nat.{one-mul, mul-assoc, mul-add, add-mul, mul-le-mul-right, mod-lt, pow-suc}

@@ -1,4 +1,5 @@
 // A line read into a command: its name says which. No function asks more of its arguments than their types.
+ghost use Prim.Native.Nat.{_<_};
 use commands::Call;
 use commands::Command;
 use commands::Show;

@@ -4,7 +4,7 @@ use rules::Given;
 use rules::Header;
 use rules::Request;
 ghost use mathlib.Core.Path.{_≡_};
-ghost use Prim.Native.Nat.{ℕ, _*_, _/_, _%_, _^_, _<_, _≤_};
+ghost use Prim.Native.Nat.{_+_, ℕ, _*_, _/_, _%_, _^_, _<_, _≤_};
 ghost use lib.Dec.{eqb};
 ghost use Rattle.rules.specs.Words.{config};
 ghost use Rattle.ways.specs.Calls.{refusal};

@@ -2,7 +2,7 @@
 use rules::Header;
 use rules::Local;
 use rules::Tree;
-ghost use Prim.Native.Nat.{_<_};
+ghost use Prim.Native.Nat.{_+_, _<_};
 
 // How full a tree is: `.` all free, 1 to 9 tenths held, `#` all held, `!` more free than a tree has.
 fn fill_sign(free: usize) -> u8 {

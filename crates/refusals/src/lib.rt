@@ -1,4 +1,5 @@
 // Each refusal by a call that gives it, and what the loader does then. Only Stuck has no such call.
+ghost use Prim.Native.Nat.{_<_};
 use rules::Given;
 use rules::Header;
 use rules::Name;

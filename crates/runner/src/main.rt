@@ -1,4 +1,5 @@
 // The line runner: reads lines from standard input, makes the calls that they name on one store, and writes the answers to standard output.
+ghost use Prim.Native.Nat.{_<_, _+_};
 use commands::Command;
 use libc::STDERR_FILENO;
 use libc::STDIN_FILENO;

@@ -1,4 +1,5 @@
 -- Laws of the loops: words written one after the other are a list of what was written. Assumes nothing.
+use lib.Dec.{lit<}
 use mathlib.Core.Path.{_≡_, refl, ap, ap₂, sym, _∙_}
 use mathlib.Core.List.{List, [], _∷_}
 use mathlib.Core.Logic.{⊎-elim}

@@ -4,7 +4,7 @@ use mathlib.Core.Bool.{Bool, true, false, not}
 use mathlib.Core.List.{List}
 use Prim.Native.Nat.{ℕ, _*_, _^_, _≤_}
 use native.Mathlib.Omega.{arith}
-use lib.Dec.{T, eqb}
+use lib.Dec.{eqb→eq, T, eqb}
 use lib.ListN.{length}
 use Rattle.rules.specs.Base.{ifte}
 use Rattle.rules.specs.Words.{Config, config}

@@ -5,7 +5,7 @@ use commands::Length;
 use commands::Setting;
 use commands::Store;
 use rules::Header;
-ghost use Prim.Native.Nat.{_≤_};
+ghost use Prim.Native.Nat.{_<_, _+_, _≤_};
 
 // The store but its words: the header, the lengths lent (plus one; 0 is the exact one), and the tally rows lent.
 pub struct Held {

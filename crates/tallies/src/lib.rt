@@ -3,7 +3,7 @@ use rules::Header;
 use rules::Local;
 use ways::Tally;
 ghost use mathlib.Core.Path.{_≡_};
-ghost use Prim.Native.Nat.{_-_, _^_, _<_, _≤_};
+ghost use Prim.Native.Nat.{_*_, _+_, _-_, _^_, _<_, _≤_};
 ghost use lib.ListN.{getD};
 ghost use Rattle.rules.specs.Base.{pick};
 ghost use Rattle.rules.specs.Words.{config};
