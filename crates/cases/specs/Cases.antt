@@ -99,6 +99,8 @@ cases =
     ∷ record { of = tableT 4096 1 1; calls = stands (0x10000000 ∷ 0x30000000 ∷ []) (0x8000100000000000 ∷ 0x8080000000000020 ∷ []) (0xfffffffffffffffe ∷ heldWords 31 ++ replicate 32 0) ∷ local0 6 0 ∷ []; figures = all5 ++ tree 0 ∷ tree 1 ∷ local 0 ∷ local 1 ∷ []; wants = 0 ∷ 2048 ∷ 0 ∷ 5 ∷ 1 ∷ 1 ∷ 0x30000000 ∷ 0x807c000000000020 ∷ 0 ∷ [] }
     -- a demote moves the reservation to the given local also where locals are not below n
     ∷ record { of = tableT 2048 1 1; calls = stands (0x30000000 ∷ []) (0 ∷ 0x8080000000000000 ∷ []) (replicate 32 0) ∷ local0 0 0 ∷ []; figures = all5 ++ tree 0 ∷ local 0 ∷ local 1 ∷ []; wants = 0 ∷ 0 ∷ 0 ∷ 1 ∷ 1 ∷ 0x30000000 ∷ 0x807ff00000000000 ∷ 0 ∷ [] }
+    -- the bound of looks, n + near − 1, is attained: nothing is free
+    ∷ record { of = tableT 8192 1 1; calls = startsHeld ∷ local0 0 0 ∷ []; figures = all5; wants = 7 ∷ 0 ∷ 0 ∷ 7 ∷ 0 ∷ [] }
     -- a full tree of another class than the default stands
     ∷ record { of = tableT 2048 1 1; calls = stands (0x800 ∷ []) (0 ∷ 0 ∷ []) (replicate 32 0) ∷ anyone 0 0 ∷ []; figures = all5 ++ tree 0 ∷ []; wants = 0 ∷ 0 ∷ 0 ∷ 1 ∷ 1 ∷ 0x7ff ∷ [] }
     ∷ []
