@@ -4,7 +4,6 @@ use stores::Held;
 
 mod look;
 
-
 // The answer to a line that looks, at the words lent.
 pub fn show<'a>(
     held: Held,

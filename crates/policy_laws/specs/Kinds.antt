@@ -66,7 +66,6 @@ module _ (w free : ℕ) where
       (λ h. ap kindNumber (match-of h) ∙ sym h)
 
 module _ (c : Config) (o e : ℕ) where
-
   -- the kind does not depend on the free argument: the answer's number is the kind
   pub policy-number : (free : ℕ) → kindNumber (policy c o e free) ≡ kindAt c o e
   unfolding policy kindAt
