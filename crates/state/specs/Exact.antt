@@ -13,7 +13,7 @@ use Rattle.rules.specs.Policy.{accepted}
 use Rattle.rules.specs.declared.Header.{Header}
 use Rattle.ways.specs.Standing.{treeOn, lengthsExact, holderStands, localStands, classStands}
 use Rattle.policy_laws.specs.All.{both-left, both-right, all-at}
-use Rattle.state.specs.Apart.{Inside}
+use Rattle.holders.specs.Apart.{Inside}
 use Rattle.word_laws.specs.Slots.{Place, place-of}
 use Rattle.policy_laws.specs.Accepted.{accepted-says}
 

@@ -4,11 +4,10 @@ use rules::Local;
 ghost use mathlib.Core.Path.{_≡_};
 ghost use Prim.Native.Nat.{_+_, _*_, _^_, _<_, _≤_};
 ghost use lib.ListN.{length};
-ghost use Rattle.rules.specs.Base.{bitOf, allBelow, sum};
+ghost use Rattle.rules.specs.Base.{allBelow, sum};
 ghost use Rattle.rules.specs.Words.{config, localsOf};
-ghost use Rattle.ways.specs.Standing.{lengthsExact, entryStands, holderStands, localStands, classStands, apartBefore, reservedCount, presentCount, standing};
+ghost use Rattle.ways.specs.Standing.{lengthsExact, entryStands, holderStands, localStands, classStands, standing};
 ghost use Rattle.state.specs.Exact.{Exact};
-ghost use Rattle.state.specs.Apart.{Inside};
 
 // Lent lengths are exact: n tree words, one local word per local, 32n bitmap words.
 pub fn lengths_exact(
@@ -151,62 +150,6 @@ fn locals_stand(h: Header, table: &[u32; 64], trees: &[u32], locals: &[u64], bit
     true
 }
 
-// Distinct locals hold distinct trees: the tree of each present local is marked, and was not marked before.
-fn apart(locals: &[u64]) -> bool
-    requires { ⌜ Inside 11 (now locals) ⌝ }
-    ensures { λ r. ⌜ r ≡ allBelow (length (now (locals .entry))) (apartBefore 11 (now (locals .entry))) ⌝ }
-{
-    let mut marks = [0u64; 16];
-    let mut j: usize = 0;
-    while j < locals.len() {
-        let l = local::load(locals, j);
-        if l.present {
-            let tree = l.row / 32;
-            if !bits::is_free(&marks, 0, tree) {
-                return false;
-            }
-            bits::hold(&mut marks, 0, tree);
-        }
-        j += 1;
-    }
-    true
-}
-
-// 1 for true.
-fn bit_of(b: bool) -> usize
-    ensures { λ r. ⌜ (r ≡ bitOf b) × (r ≤ 1) ⌝ }
-{
-    if b { 1 } else { 0 }
-}
-
-// The number of reserved entries.
-fn reserved_count(trees: &[u32]) -> usize
-    ensures { λ r. ⌜ r ≡ reservedCount (now (trees .entry)) (length (now (trees .entry))) ⌝ }
-{
-    let mut reserved: usize = 0;
-    let mut t: usize = 0;
-    while t < trees.len() {
-        let e = trees::load(trees, t);
-        reserved += bit_of(e.reserved);
-        t += 1;
-    }
-    reserved
-}
-
-// The number of present locals.
-fn present_count(locals: &[u64]) -> usize
-    ensures { λ r. ⌜ r ≡ presentCount (now (locals .entry)) (length (now (locals .entry))) ⌝ }
-{
-    let mut present: usize = 0;
-    let mut j: usize = 0;
-    while j < locals.len() {
-        let l = local::load(locals, j);
-        present += bit_of(l.present);
-        j += 1;
-    }
-    present
-}
-
 // The whole state is tested.
 pub fn stands(h: Header, table: &[u32; 64], trees: &[u32], locals: &[u64], bits: &[u64]) -> bool
     ensures { λ r. ⌜ r ≡ standing (config h (now (table .entry))) (now (trees .entry)) (now (locals .entry)) (now (bits .entry)) ⌝ }
@@ -215,8 +158,8 @@ pub fn stands(h: Header, table: &[u32; 64], trees: &[u32], locals: &[u64], bits:
         if lengths_exact(h, table, trees, locals, bits) {
             if entries_stand(h, table, trees, bits) {
                 if locals_stand(h, table, trees, locals, bits) {
-                    if apart(locals) {
-                        if reserved_count(trees) == present_count(locals) {
+                    if holders::apart(locals) {
+                        if holders::reserved_count(trees) == holders::present_count(locals) {
                             return bits::past_held(bits, h.frames);
                         }
                         return false;

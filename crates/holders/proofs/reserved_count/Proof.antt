@@ -1,4 +1,4 @@
--- `state::reserved_count` meets its contract. The invariant: the count is that of the entries passed. The measure: the entries left. Assumes nothing.
+-- `holders::reserved_count` meets its contract. The invariant: the count is that of the entries passed. The measure: the entries left. Assumes nothing.
 use mathlib.Core.Path.{_≡_}
 use Prim.Native.Nat.{ℕ, _≤_, _-_}
 use native.Mathlib.Omega.{arith}
@@ -8,8 +8,8 @@ use Rattle.rules.specs.Base.{bitOf}
 use Rattle.rules.specs.Words.{entryAt}
 use Rattle.ways.specs.Standing.{reservedCount}
 use Rattle.words.specs.Sums.{sum-none, sum-more}
-use Rattle.state.proofs.reserved_count.Statement.{statement}
-use Rattle.state.proofs.reserved_count.Tie as tie
+use Rattle.holders.proofs.reserved_count.Statement.{statement}
+use Rattle.holders.proofs.reserved_count.Tie as tie
 
 abbrev Inv-loop : tie.InvT-loop
 Inv-loop trees reserved₀ t₀ reserved t = (t ≤ length trees) × ((reserved ≤ t) × (reserved ≡ reservedCount trees t))

@@ -1,4 +1,4 @@
--- `state::present_count` meets its contract. The invariant: the count is that of the locals passed. The measure: the locals left. Assumes nothing.
+-- `holders::present_count` meets its contract. The invariant: the count is that of the locals passed. The measure: the locals left. Assumes nothing.
 use mathlib.Core.Path.{_≡_}
 use Prim.Native.Nat.{ℕ, _≤_, _-_}
 use native.Mathlib.Omega.{arith}
@@ -8,8 +8,8 @@ use Rattle.rules.specs.Base.{bitOf}
 use Rattle.rules.specs.Words.{localAt}
 use Rattle.ways.specs.Standing.{presentCount}
 use Rattle.words.specs.Sums.{sum-none, sum-more}
-use Rattle.state.proofs.present_count.Statement.{statement}
-use Rattle.state.proofs.present_count.Tie as tie
+use Rattle.holders.proofs.present_count.Statement.{statement}
+use Rattle.holders.proofs.present_count.Tie as tie
 
 abbrev Inv-loop : tie.InvT-loop
 Inv-loop locals present₀ j₀ present j = (j ≤ length locals) × ((present ≤ j) × (present ≡ presentCount locals j))

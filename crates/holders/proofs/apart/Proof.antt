@@ -1,4 +1,4 @@
--- `state::apart` meets its contract. The invariant: every local passed is apart from those before it, and the marks are the trees that they hold. Assumes nothing.
+-- `holders::apart` meets its contract. The invariant: every local passed is apart from those before it, and the marks are the trees that they hold. Assumes nothing.
 use mathlib.Core.Path.{_≡_, sym, _∙_}
 use mathlib.Core.Bool.{true}
 use mathlib.Core.Logic.{⊎-elim}
@@ -9,9 +9,9 @@ use borrow.Author.Tests.{eqb-true, not-true, not-false}
 use Rattle.rules.specs.Base.{allBelow}
 use Rattle.ways.specs.Standing.{apartBefore}
 use Rattle.policy_laws.specs.All.{all-none, all-fails, all-done}
-use Rattle.state.specs.Apart.{Marks, mark-block, marks-none, absent-turn, present-turn, marked-fails}
-use Rattle.state.proofs.apart.Statement.{statement}
-use Rattle.state.proofs.apart.Tie as tie
+use Rattle.holders.specs.Apart.{Marks, mark-block, marks-none, absent-turn, present-turn, marked-fails}
+use Rattle.holders.proofs.apart.Statement.{statement}
+use Rattle.holders.proofs.apart.Tie as tie
 
 abbrev Inv-loop : tie.InvT-loop
 Inv-loop locals marks₀ j₀ marks j = (j ≤ length locals) × ((allBelow j (apartBefore 11 locals) ≡ true) × Marks 11 locals j marks)
