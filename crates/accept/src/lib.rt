@@ -15,11 +15,11 @@ fn wide(x: u8) -> usize
 }
 
 // The class has a place.
-fn is_configured(h: Header, k: usize) -> bool
+fn is_configured(places: &[u8; 8], k: usize) -> bool
     requires { ⌜ k < 8 ⌝ }
-    ensures { λ r. ⌜ r ≡ configured (h .places) k ⌝ }
+    ensures { λ r. ⌜ r ≡ configured (now (places .entry)) k ⌝ }
 {
-    0 < wide(h.places[k])
+    0 < wide(places[k])
 }
 
 // No class has more than 32 locals.
@@ -89,12 +89,12 @@ fn demotes_kept(h: Header, table: &[u32; 64], o: usize, e: usize) -> bool
 }
 
 // The pair of a configured class o and a class e: its form, and the second and the third rule if it is good.
-fn cell_accepted(h: Header, table: &[u32; 64], o: usize, e: usize) -> bool
-    requires { ⌜ (h .default < 8) × ((o < 8) × (e < 8)) ⌝ }
+fn cell_accepted(h: Header, places: &[u8; 8], table: &[u32; 64], o: usize, e: usize) -> bool
+    requires { ⌜ (now places ≡ h .places) × ((h .default < 8) × ((o < 8) × (e < 8))) ⌝ }
     ensures { λ r. ⌜ r ≡ cellAccepted (config h (now (table .entry))) o e ⌝ }
 {
     if formed(pair_at(h, table, o, e)) {
-        if is_configured(h, e) {
+        if is_configured(places, e) {
             if 2 <= kind_at(h, table, o, e) {
                 if 0 < kind_at(h, table, e, h.default) {
                     if 2 <= kind_at(h, table, o, h.default) {
@@ -112,13 +112,13 @@ fn cell_accepted(h: Header, table: &[u32; 64], o: usize, e: usize) -> bool
 }
 
 // The eight pairs of a configured class o.
-fn cells_accepted(h: Header, table: &[u32; 64], o: usize) -> bool
-    requires { ⌜ (h .default < 8) × (o < 8) ⌝ }
+fn cells_accepted(h: Header, places: &[u8; 8], table: &[u32; 64], o: usize) -> bool
+    requires { ⌜ (now places ≡ h .places) × ((h .default < 8) × (o < 8)) ⌝ }
     ensures { λ r. ⌜ r ≡ allBelow 8 (cellAccepted (config h (now (table .entry))) o) ⌝ }
 {
     let mut e: usize = 0;
     while e < 8 {
-        if !cell_accepted(h, table, o, e) {
+        if !cell_accepted(h, places, table, o, e) {
             return false;
         }
         e += 1;
@@ -142,13 +142,13 @@ fn row_empty(h: Header, table: &[u32; 64], o: usize) -> bool
 }
 
 // The eight pairs of a requested class o.
-fn row_accepted(h: Header, table: &[u32; 64], o: usize) -> bool
-    requires { ⌜ (h .default < 8) × (o < 8) ⌝ }
+fn row_accepted(h: Header, places: &[u8; 8], table: &[u32; 64], o: usize) -> bool
+    requires { ⌜ (now places ≡ h .places) × ((h .default < 8) × (o < 8)) ⌝ }
     ensures { λ r. ⌜ r ≡ rowAccepted (config h (now (table .entry))) o ⌝ }
 {
-    if is_configured(h, o) {
+    if is_configured(places, o) {
         if 2 <= kind_at(h, table, o, o) {
-            return cells_accepted(h, table, o);
+            return cells_accepted(h, places, table, o);
         }
         return false;
     }
@@ -156,13 +156,13 @@ fn row_accepted(h: Header, table: &[u32; 64], o: usize) -> bool
 }
 
 // The table: its form and the three rules.
-fn rows_accepted(h: Header, table: &[u32; 64]) -> bool
-    requires { ⌜ h .default < 8 ⌝ }
+fn rows_accepted(h: Header, places: &[u8; 8], table: &[u32; 64]) -> bool
+    requires { ⌜ (now places ≡ h .places) × (h .default < 8) ⌝ }
     ensures { λ r. ⌜ r ≡ allBelow 8 (rowAccepted (config h (now (table .entry)))) ⌝ }
 {
     let mut o: usize = 0;
     while o < 8 {
-        if !row_accepted(h, table, o) {
+        if !row_accepted(h, places, table, o) {
             return false;
         }
         o += 1;
@@ -180,10 +180,11 @@ pub fn accepts(h: Header, table: &[u32; 64]) -> bool
     if 2097152 < h.frames {
         return false;
     }
+    let places = h.places;
     if places_fit(h) {
         if h.default < 8 {
-            if is_configured(h, h.default) {
-                return rows_accepted(h, table);
+            if is_configured(&places, h.default) {
+                return rows_accepted(h, &places, table);
             }
             return false;
         }

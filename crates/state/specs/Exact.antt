@@ -1,16 +1,20 @@
 -- What the tests of header, table and lengths give to those after them: every tree of the configuration has an entry and bitmap words. Assumes nothing.
-use mathlib.Core.Path.{_≡_}
+use mathlib.Core.Path.{_≡_, subst}
 use mathlib.Core.Bool.{true}
 use mathlib.Core.List.{List}
-use Prim.Native.Nat.{ℕ, _*_, _≤_}
+use Prim.Native.Nat.{ℕ, _*_, _^_, _<_, _≤_}
+use native.Mathlib.Omega.{arith}
 use lib.Dec.{eqb}
 use lib.ListN.{length}
-use borrow.Author.Tests.{eqb-true}
-use Rattle.rules.specs.Base.{both}
-use Rattle.rules.specs.Words.{Config, treeFrames, treeRows, trees, localCount}
+use borrow.Author.Tests.{eqb-true, ltb-true}
+use Rattle.rules.specs.Base.{both, allBelow}
+use Rattle.rules.specs.Words.{Config, config, treeFrames, treeRows, treeCount, trees, localsOf, localCount, slot, localAt}
 use Rattle.rules.specs.Policy.{accepted}
-use Rattle.ways.specs.Standing.{lengthsExact}
-use Rattle.policy_laws.specs.All.{both-left, both-right}
+use Rattle.rules.specs.declared.Header.{Header}
+use Rattle.ways.specs.Standing.{treeOn, lengthsExact, holderStands, localStands, classStands}
+use Rattle.policy_laws.specs.All.{both-left, both-right, all-at}
+use Rattle.state.specs.Apart.{Inside}
+use Rattle.word_laws.specs.Slots.{Place, place-of}
 use Rattle.policy_laws.specs.Accepted.{accepted-says}
 
 -- every tree of the configuration has an entry and its bitmap words
@@ -44,3 +48,23 @@ module _ (c : Config) where
         let g : both (eqb (length ls) (localCount (c .places))) (eqb (length bs) (treeRows (c .order) * trees c)) ≡ true
         = both-right (eqb (length ts) (trees c)) _ h in
         eqb-true _ _ (both-left (eqb (length ls) (localCount (c .places))) _ g)
+
+    -- the test of the locals says that each present one's tree is one of the configuration
+    pub locals-inside : accepted c ≡ true → lengthsExact c ts ls bs ≡ true → allBelow 8 (classStands c ts ls bs) ≡ true
+        → (j : ℕ) → j < length ls → localAt ls j .present ≡ true → treeOn (c .order) (localAt ls j) < trees c
+    unfolding classStands localStands holderStands
+    locals-inside a h e j l p =
+        let n : length ls ≡ localCount (c .places) = locals-say h in
+        let s : Place (c .places) j = place-of (c .places) j (omega arith) in
+        let f : localStands c ts ls bs (s .class) (slot (c .places) (s .class) (s .index)) ≡ true
+        = all-at (localsOf (c .places) (s .class)) _ (all-at 8 (classStands c ts ls bs) e (s .class) (s .classLt)) (s .index) (s .indexLt) in
+        let g : localStands c ts ls bs (s .class) j ≡ true = subst (λ (x : ℕ). localStands c ts ls bs (s .class) x ≡ true) (s .is) f in
+        ltb-true _ _ (both-left _ _ (rw p at g))
+
+-- so its tree is below 1,024
+pub inside-few : (h : Header) (pairs ts ls bs : List ℕ) → accepted (config h pairs) ≡ true → lengthsExact (config h pairs) ts ls bs ≡ true
+    → allBelow 8 (classStands (config h pairs) ts ls bs) ≡ true → Inside 11 ls
+unfolding treeCount
+inside-few h pairs ts ls bs a l e j b p =
+    let m : h .frames ≤ 1024 * 2 ^ 11 = frames-most (config h pairs) a in
+    omega (arith, locals-inside (config h pairs) ts ls bs a l e j b p)

@@ -1,4 +1,4 @@
-// The standing rules as a test of the whole state: one pass over the bitmap, one over the entries, one comparison for each pair of locals.
+// The standing rules as a test of the whole state: one pass over the bitmap, two over the entries, two over the locals.
 use rules::Header;
 use rules::Local;
 ghost use mathlib.Core.Path.{_≡_};
@@ -8,7 +8,7 @@ ghost use Rattle.rules.specs.Base.{bitOf, allBelow, sum};
 ghost use Rattle.rules.specs.Words.{config, localsOf, localOf};
 ghost use Rattle.ways.specs.Standing.{lengthsExact, entryStands, holderStands, localStands, classStands, apartBefore, reservedCount, presentCount, standing};
 ghost use Rattle.state.specs.Exact.{Exact};
-ghost use Rattle.state.specs.Apart.{holdsTree};
+ghost use Rattle.state.specs.Apart.{Inside};
 
 // Lent lengths are exact: n tree words, one local word per local, 32n bitmap words.
 pub fn lengths_exact(
@@ -151,45 +151,21 @@ fn locals_stand(h: Header, table: &[u32; 64], trees: &[u32], locals: &[u64], bit
     true
 }
 
-// A local's word holds a tree.
-fn holds(w: u64, tree: usize) -> bool
-    ensures { λ r. ⌜ r ≡ holdsTree 11 (localOf w) tree ⌝ }
-{
-    let l = words::local_of(w);
-    if l.present {
-        return tree == l.row / 32;
-    }
-    false
-}
-
-// No local before j holds the tree of the local j.
-fn apart_before(locals: &[u64], j: usize) -> bool
-    requires { ⌜ j < length (now locals) ⌝ }
-    ensures { λ r. ⌜ r ≡ apartBefore 11 (now (locals .entry)) j ⌝ }
-{
-    let l = local::load(locals, j);
-    if !l.present {
-        return true;
-    }
-    let tree = l.row / 32;
-    let mut i: usize = 0;
-    while i < j {
-        if holds(locals[i], tree) {
-            return false;
-        }
-        i += 1;
-    }
-    true
-}
-
-// Distinct locals hold distinct trees.
+// Distinct locals hold distinct trees: the tree of each present local is marked, and was not marked before.
 fn apart(locals: &[u64]) -> bool
+    requires { ⌜ Inside 11 (now locals) ⌝ }
     ensures { λ r. ⌜ r ≡ allBelow (length (now (locals .entry))) (apartBefore 11 (now (locals .entry))) ⌝ }
 {
+    let mut marks = [0u64; 16];
     let mut j: usize = 0;
     while j < locals.len() {
-        if !apart_before(locals, j) {
-            return false;
+        let l = local::load(locals, j);
+        if l.present {
+            let tree = l.row / 32;
+            if !bits::is_free(&marks, 0, tree) {
+                return false;
+            }
+            bits::hold(&mut marks, 0, tree);
         }
         j += 1;
     }

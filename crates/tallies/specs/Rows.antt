@@ -1,17 +1,35 @@
 -- The eight rows by value, as a list, and against the definition. Assumes nothing.
 use mathlib.Core.Path.{_≡_, refl}
 use mathlib.Core.List.{List, [], _∷_}
-use Prim.Native.Nat.{ℕ}
+use Prim.Native.Nat.{ℕ, _+_, _-_, _*_, _^_, _<_}
 use native.Mathlib.Omega.{arith}
-use lib.ListN.{length, set}
-use Rattle.rules.specs.Words.{Config}
+use lib.ListN.{length, getD, set}
+use Rattle.rules.specs.Words.{Config, trees, treeFrames, localCount}
 use Rattle.ways.specs.declared.Tally.{Tally}
-use Rattle.ways.specs.Statistics.{tally, tallies}
+use Rattle.ways.specs.Statistics.{localFree, entryFree, entryAlloc, inUse, overClass, reservedFree, tally, tallies}
 use Rattle.tallies.specs.declared.Rows.{Rows}
+use Rattle.tallies.specs.declared.Entries.{Entries}
+use Rattle.tallies.specs.Sums.{freeAt, allocAt, treeAt, heldOn, Summed}
 
 -- the rows that f gives for the classes
 abbrev pub rowsOf : (ℕ → Tally) → Rows
 rowsOf f = record { r0 = f 0; r1 = f 1; r2 = f 2; r3 = f 3; r4 = f 4; r5 = f 5; r6 = f 6; r7 = f 7 }
+
+-- row by row
+pub eight : (f : ℕ → Tally) {a b c d e g h i : Tally} → a ≡ f 0 → b ≡ f 1 → c ≡ f 2 → d ≡ f 3 → e ≡ f 4 → g ≡ f 5 → h ≡ f 6 → i ≡ f 7
+    → record { r0 = a; r1 = b; r2 = c; r3 = d; r4 = e; r5 = g; r6 = h; r7 = i } ≡ rowsOf f
+eight f p q r s t u v w = rw (p, q, r, s, t, u, v, w)
+
+-- the row of class k, of sums by class
+unfoldable pub rowOf : ℕ → Entries → ℕ → List ℕ → ℕ → Tally
+rowOf z e more held k = record { free = getD (e .free) k 0 + more; alloc = getD (e .alloc) k 0; used = treeFrames z * getD (e .trees) k 0 - getD (e .free) k 0 - getD held k 0 }
+
+-- it is the definition's
+pub row-is : (c : Config) (ts ls : List ℕ) (e : Entries) (held : List ℕ) (k : ℕ) → k < 8
+    → Summed (freeAt ts) (2 ^ 28) (e .free) (trees c) → Summed (allocAt (c .order) ts) 2048 (e .alloc) (trees c) → Summed (treeAt ts) 1 (e .trees) (trees c)
+    → Summed (heldOn (c .order) ts ls) (2 ^ 19) held (localCount (c .places)) → rowOf (c .order) e (localFree c ls k) held k ≡ tally c ts ls k
+unfolding rowOf tally entryFree entryAlloc inUse overClass reservedFree freeAt allocAt treeAt heldOn
+row-is c ts ls e held k l a b d g = rw (a .sums k l, b .sums k l, d .sums k l, g .sums k l)
 
 -- the rows as a list
 unfoldable pub rowList : Rows → List Tally

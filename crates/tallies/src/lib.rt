@@ -4,31 +4,24 @@ use rules::Local;
 use ways::Tally;
 ghost use mathlib.Core.Path.{_≡_};
 ghost use Prim.Native.Nat.{_+_, _-_, _*_, _^_, _<_, _≤_};
-ghost use lib.Dec.{eqb};
+ghost use lib.ListN.{getD};
 ghost use Rattle.rules.specs.Base.{pick, sum};
 ghost use Rattle.rules.specs.Words.{config};
-ghost use Rattle.ways.specs.Statistics.{localFree, reservedFree, tally, totalFree, freeTrees};
-ghost use Rattle.tallies.specs.Rows.{rowsOf};
-ghost use Rattle.tallies.specs.Sums.{freeAt, allocAt, treeAt, heldAt, entriesFree, entriesWhole, localsFree, localsWhole};
+ghost use Rattle.ways.specs.Statistics.{localFree, tally, totalFree, freeTrees};
+ghost use Rattle.tallies.specs.Rows.{rowsOf, rowOf};
+ghost use Rattle.tallies.specs.Sums.{freeAt, allocAt, treeAt, heldOn, Summed, entriesFree, entriesWhole, localsFree, localsWhole};
 
-// Of the entries of a class: their free, 2,048 less their free, their number.
+// By class, of the entries that have it: their free, 2,048 less their free, their number.
 pub struct Entries {
-    pub free: usize,
-    pub alloc: usize,
-    pub trees: usize,
+    pub free: [usize; 8],
+    pub alloc: [usize; 8],
+    pub trees: [usize; 8],
 }
 
 // Total free, and free trees.
 pub struct Whole {
     pub free: usize,
     pub trees: usize,
-}
-
-// A number where two classes are the same, else 0.
-fn of_class(a: usize, b: usize, x: usize) -> usize
-    ensures { λ r. ⌜ (r ≡ pick (eqb a b) x 0) × (r ≤ x) ⌝ }
-{
-    if a == b { x } else { 0 }
 }
 
 // What a tree has beside its free.
@@ -38,20 +31,21 @@ fn rest(free: usize) -> usize
     if free < 2048 { 2048 - free } else { 0 }
 }
 
-// The entries of a class among the first n trees.
-fn class_entries(trees: &[u32], n: usize, class: usize) -> Entries
+// The first n entries, by class.
+fn entries_by_class(trees: &[u32], n: usize) -> Entries
     requires { ⌜ n ≤ 1024 ⌝ }
-    ensures { λ r. ⌜ (r .free ≡ sum (freeAt (now (trees .entry)) class) 0 n) × ((r .alloc ≡ sum (allocAt 11 (now (trees .entry)) class) 0 n)
-        × ((r .trees ≡ sum (treeAt (now (trees .entry)) class) 0 n) × ((r .free ≤ 2 ^ 38) × (r .trees ≤ 1024)))) ⌝ }
+    ensures { λ r. ⌜ Summed (freeAt (now (trees .entry))) (2 ^ 28) (r .free) n
+        × (Summed (allocAt 11 (now (trees .entry))) 2048 (r .alloc) n × Summed (treeAt (now (trees .entry))) 1 (r .trees) n) ⌝ }
 {
-    let mut free: usize = 0;
-    let mut alloc: usize = 0;
-    let mut count: usize = 0;
+    let mut free = [0usize; 8];
+    let mut alloc = [0usize; 8];
+    let mut count = [0usize; 8];
     for t in 0..n {
         let e = trees::load(trees, t);
-        free = free + of_class(e.class, class, e.free);
-        alloc = alloc + of_class(e.class, class, rest(e.free));
-        count = count + of_class(e.class, class, 1);
+        let k = e.class;
+        free[k] = free[k] + e.free;
+        alloc[k] = alloc[k] + rest(e.free);
+        count[k] = count[k] + 1;
     }
     Entries {
         free: free,
@@ -75,26 +69,24 @@ fn local_free(h: Header, table: &[u32; 64], locals: &[u64], class: usize) -> usi
     free
 }
 
-// The free of a local, if it is present and its tree's entry has this class.
-fn held_free(trees: &[u32], l: Local, class: usize) -> usize
-    ensures { λ r. ⌜ (r ≡ heldAt 11 (now (trees .entry)) class l) × (r ≤ l .free) ⌝ }
+// The free of a local that is present, else 0.
+fn present_free(l: Local) -> usize
+    ensures { λ r. ⌜ (r ≡ pick (l .present) (l .free) 0) × (r ≤ l .free) ⌝ }
 {
-    if l.present {
-        let e = trees::load(trees, l.row / 32);
-        return of_class(e.class, class, l.free);
-    }
-    0
+    if l.present { l.free } else { 0 }
 }
 
-// The free of the reservations on the trees of a class.
-fn reserved_free(h: Header, table: &[u32; 64], trees: &[u32], locals: &[u64], class: usize) -> usize
-    ensures { λ r. ⌜ r ≡ reservedFree (config h (now (table .entry))) (now (trees .entry)) (now (locals .entry)) class ⌝ }
+// The free of the first n locals that are present, by the class of their tree's entry.
+fn reserved_by_class(trees: &[u32], locals: &[u64], n: usize) -> [usize; 8]
+    requires { ⌜ n < 2048 ⌝ }
+    ensures { λ r. ⌜ Summed (heldOn 11 (now (trees .entry)) (now (locals .entry))) (2 ^ 19) r n ⌝ }
 {
-    let n = words::first_slot(h, 8);
-    let mut free: usize = 0;
+    let mut free = [0usize; 8];
     for j in 0..n {
         let l = local::load(locals, j);
-        free = free + held_free(trees, l, class);
+        let e = trees::load(trees, l.row / 32);
+        let k = e.class;
+        free[k] = free[k] + present_free(l);
     }
     free
 }
@@ -106,19 +98,34 @@ fn less(a: usize, b: usize) -> usize
     if b < a { a - b } else { 0 }
 }
 
-// The row of a class.
-pub fn class_row(h: Header, table: &[u32; 64], trees: &[u32], locals: &[u64], class: usize) -> Tally
-    requires { ⌜ (h .frames ≤ 2 ^ 21) × (class < 8) ⌝ }
-    ensures { λ r. ⌜ r ≡ tally (config h (now (table .entry))) (now (trees .entry)) (now (locals .entry)) class ⌝ }
+// The row of a class, of the entries by class, the free of the class's locals, and the free of the reservations by class.
+fn row(e: Entries, more: usize, reserved: [usize; 8], class: usize) -> Tally
+    requires { ⌜ (class < 8) × ((getD (e .free) class 0 < 2 ^ 40) × ((getD (e .trees) class 0 < 2 ^ 40) × (more < 2 ^ 60))) ⌝ }
+    ensures { λ r. ⌜ r ≡ rowOf 11 e more reserved class ⌝ }
 {
-    let e = class_entries(trees, words::tree_count(h.frames), class);
-    let more = local_free(h, table, locals, class);
-    let reserved = reserved_free(h, table, trees, locals, class);
+    let free = e.free;
+    let alloc = e.alloc;
+    let trees = e.trees;
     Tally {
-        free: e.free + more,
-        alloc: e.alloc,
-        used: less(less(2048 * e.trees, e.free), reserved),
+        free: free[class] + more,
+        alloc: alloc[class],
+        used: less(less(2048 * trees[class], free[class]), reserved[class]),
     }
+}
+
+// The row of a class.
+fn class_row(
+    h: Header,
+    table: &[u32; 64],
+    locals: &[u64],
+    e: Entries,
+    reserved: [usize; 8],
+    class: usize,
+) -> Tally
+    requires { ⌜ (class < 8) × ((getD (e .free) class 0 < 2 ^ 40) × (getD (e .trees) class 0 < 2 ^ 40)) ⌝ }
+    ensures { λ r. ⌜ r ≡ rowOf 11 e (localFree (config h (now (table .entry))) (now (locals .entry)) class) reserved class ⌝ }
+{
+    row(e, local_free(h, table, locals, class), reserved, class)
 }
 
 // Total free and free trees of the first n entries.
@@ -191,14 +198,16 @@ pub fn all_rows<'a>(h: Header, table: &'a [u32; 64], trees: &'a [u32], locals: &
     requires { ⌜ h .frames ≤ 2 ^ 21 ⌝ }
     ensures { λ r. ⌜ r ≡ rowsOf (tally (config h (now (table .entry))) (now (trees .entry)) (now (locals .entry))) ⌝ }
 {
+    let e = entries_by_class(trees, words::tree_count(h.frames));
+    let held = reserved_by_class(trees, locals, words::first_slot(h, 8));
     Rows {
-        r0: class_row(h, table, trees, locals, 0),
-        r1: class_row(h, table, trees, locals, 1),
-        r2: class_row(h, table, trees, locals, 2),
-        r3: class_row(h, table, trees, locals, 3),
-        r4: class_row(h, table, trees, locals, 4),
-        r5: class_row(h, table, trees, locals, 5),
-        r6: class_row(h, table, trees, locals, 6),
-        r7: class_row(h, table, trees, locals, 7),
+        r0: class_row(h, table, locals, e, held, 0),
+        r1: class_row(h, table, locals, e, held, 1),
+        r2: class_row(h, table, locals, e, held, 2),
+        r3: class_row(h, table, locals, e, held, 3),
+        r4: class_row(h, table, locals, e, held, 4),
+        r5: class_row(h, table, locals, e, held, 5),
+        r6: class_row(h, table, locals, e, held, 6),
+        r7: class_row(h, table, locals, e, held, 7),
     }
 }

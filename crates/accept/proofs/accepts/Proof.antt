@@ -43,13 +43,13 @@ returns-3 : tie.Need-returns-3
 unfolding accepted framesAccepted placesAccepted defaultAccepted
 returns-3 c =
     rw (
-      a-frame _ (c .before .before .before .before .before .before .before .before .before .if1 .left),
-      le-leb _ _ (c .before .before .before .before .before .before .before .if2 .left),
-      ← c .before .before .before .before .before .before .places-fit .ensures,
-      c .before .before .before .before .before .if3 .taken,
-      lt-ltb _ _ (c .before .before .before .if4 .taken),
-      ← c .before .before .is-configured .ensures,
-      c .before .if5 .taken,
+      a-frame _ (c .before .before .before .before .before .before .before .before .before .before .before .before .if1 .left),
+      le-leb _ _ (c .before .before .before .before .before .before .before .before .before .before .if2 .left),
+      ← c .before .before .before .before .before .before .before .before .places-fit .ensures,
+      c .before .before .before .before .before .before .before .if3 .taken,
+      lt-ltb _ _ (c .before .before .before .before .before .if4 .taken),
+      ← c .before .before .before .is-configured .ensures,
+      c .before .before .if5 .taken,
     )
     (c .rows-accepted .ensures ∙ sym (table-rows _))
 
@@ -57,11 +57,11 @@ returns-4 : tie.Need-returns-4
 unfolding accepted framesAccepted placesAccepted defaultAccepted
 returns-4 c =
     rw (
-      a-frame _ (c .before .before .before .before .before .before .before .before .if1 .left),
-      le-leb _ _ (c .before .before .before .before .before .before .if2 .left),
-      ← c .before .before .before .before .before .places-fit .ensures,
-      c .before .before .before .before .if3 .taken,
-      lt-ltb _ _ (c .before .before .if4 .taken),
+      a-frame _ (c .before .before .before .before .before .before .before .before .before .before .if1 .left),
+      le-leb _ _ (c .before .before .before .before .before .before .before .before .if2 .left),
+      ← c .before .before .before .before .before .before .places-fit .ensures,
+      c .before .before .before .before .before .if3 .taken,
+      lt-ltb _ _ (c .before .before .before .if4 .taken),
       ← c .before .is-configured .ensures,
       c .if5 .left,
     )
@@ -70,8 +70,8 @@ returns-5 : tie.Need-returns-5
 unfolding accepted framesAccepted placesAccepted defaultAccepted
 returns-5 c =
     rw (
-      a-frame _ (c .before .before .before .before .before .before .if1 .left),
-      le-leb _ _ (c .before .before .before .before .if2 .left),
+      a-frame _ (c .before .before .before .before .before .before .before .if1 .left),
+      le-leb _ _ (c .before .before .before .before .before .if2 .left),
       ← c .before .before .before .places-fit .ensures,
       c .before .before .if3 .taken,
       le-ltb _ _ (c .if4 .left),
@@ -81,8 +81,8 @@ returns-6 : tie.Need-returns-6
 unfolding accepted framesAccepted placesAccepted defaultAccepted
 returns-6 c =
     rw (
-      a-frame _ (c .before .before .before .before .if1 .left),
-      le-leb _ _ (c .before .before .if2 .left),
+      a-frame _ (c .before .before .before .before .before .if1 .left),
+      le-leb _ _ (c .before .before .before .if2 .left),
       ← c .before .places-fit .ensures,
       c .if3 .left,
     )

@@ -2,6 +2,8 @@
 use Rattle.rules.specs.Policy.{good}
 use Rattle.policy_laws.specs.Rows.{cellAccepted}
 use borrow.Author.Tests.{le-leb, le-ltb, lt-leb, lt-ltb}
+use mathlib.Core.Path.{ap, _∙_}
+use Rattle.rules.specs.Words.{configured}
 use borrow.Author.Needs.{needs}
 use Rattle.accept.proofs.cell_accepted.Statement.{statement}
 use Rattle.accept.proofs.cell_accepted.Tie as tie
@@ -34,7 +36,7 @@ returns c =
       ← c .before .before .before .before .before .before .before .before .before .before .before .pair-at .ensures,
       ← c .before .before .before .before .before .before .before .before .before .before .formed .ensures,
       c .before .before .before .before .before .before .before .before .before .if1 .taken,
-      ← c .before .before .before .before .before .before .before .before .is-configured .ensures,
+      ← (c .before .before .before .before .before .before .before .before .is-configured .ensures ∙ ap (λ p. configured p (c .before .before .before .before .before .before .before .before .before .before .before .before .args .e)) (c .before .before .before .before .before .before .before .before .before .before .before .before .pre .0)),
       c .before .before .before .before .before .before .before .if2 .taken,
       ← c .before .before .before .before .before .before .kind-at .ensures,
       le-leb _ _ (c .before .before .before .before .before .if3 .taken),
@@ -52,7 +54,7 @@ returns-2 c =
       ← c .before .before .before .before .before .before .before .before .before .before .pair-at .ensures,
       ← c .before .before .before .before .before .before .before .before .before .formed .ensures,
       c .before .before .before .before .before .before .before .before .if1 .taken,
-      ← c .before .before .before .before .before .before .before .is-configured .ensures,
+      ← (c .before .before .before .before .before .before .before .is-configured .ensures ∙ ap (λ p. configured p (c .before .before .before .before .before .before .before .before .before .before .before .args .e)) (c .before .before .before .before .before .before .before .before .before .before .before .pre .0)),
       c .before .before .before .before .before .before .if2 .taken,
       ← c .before .before .before .before .before .kind-at .ensures,
       le-leb _ _ (c .before .before .before .before .if3 .taken),
@@ -72,7 +74,7 @@ returns-3 c =
       ← c .before .before .before .before .before .before .before .before .before .pair-at .ensures,
       ← c .before .before .before .before .before .before .before .before .formed .ensures,
       c .before .before .before .before .before .before .before .if1 .taken,
-      ← c .before .before .before .before .before .before .is-configured .ensures,
+      ← (c .before .before .before .before .before .before .is-configured .ensures ∙ ap (λ p. configured p (c .before .before .before .before .before .before .before .before .before .before .args .e)) (c .before .before .before .before .before .before .before .before .before .before .pre .0)),
       c .before .before .before .before .before .if2 .taken,
       ← c .before .before .before .before .kind-at .ensures,
       le-leb _ _ (c .before .before .before .if3 .taken),
@@ -88,7 +90,7 @@ returns-4 c =
       ← c .before .before .before .before .before .before .pair-at .ensures,
       ← c .before .before .before .before .before .formed .ensures,
       c .before .before .before .before .if1 .taken,
-      ← c .before .before .before .is-configured .ensures,
+      ← (c .before .before .before .is-configured .ensures ∙ ap (λ p. configured p (c .before .before .before .before .before .before .before .args .e)) (c .before .before .before .before .before .before .before .pre .0)),
       c .before .before .if2 .taken,
       ← c .before .kind-at .ensures,
       lt-leb _ _ (c .if3 .left),
@@ -104,7 +106,7 @@ returns-5 c =
       ← c .before .before .before .before .before .pair-at .ensures,
       ← c .before .before .before .before .formed .ensures,
       c .before .before .before .if1 .taken,
-      ← c .before .before .is-configured .ensures,
+      ← (c .before .before .is-configured .ensures ∙ ap (λ p. configured p (c .before .before .before .before .before .before .args .e)) (c .before .before .before .before .before .before .pre .0)),
       c .before .if2 .left,
       ← c .kind-at4 .ensures,
     )

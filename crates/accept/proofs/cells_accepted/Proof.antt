@@ -12,10 +12,10 @@ use Rattle.accept.proofs.cells_accepted.Statement.{statement}
 use Rattle.accept.proofs.cells_accepted.Tie as tie
 
 abbrev Inv-loop : tie.InvT-loop
-Inv-loop h table o e₀ e = (e ≤ 8) × (allBelow e (cellAccepted (config h table) o) ≡ true)
+Inv-loop h places table o e₀ e = (e ≤ 8) × (allBelow e (cellAccepted (config h table) o) ≡ true)
 
 abbrev μ-loop : tie.MeasureT-loop
-μ-loop h table o e₀ e = 8 - e
+μ-loop h places table o e₀ e = 8 - e
 
 loop-holds : tie.Need-loop-holds Inv-loop μ-loop
 loop-holds c = (search needs, all-none _)

@@ -2,6 +2,8 @@
 use Rattle.policy_laws.specs.Rows.{rowAccepted}
 use Rattle.rules.specs.Policy.{good}
 use borrow.Author.Tests.{le-leb, lt-leb}
+use mathlib.Core.Path.{ap, _∙_}
+use Rattle.rules.specs.Words.{configured}
 use borrow.Author.Needs.{needs}
 use Rattle.accept.proofs.row_accepted.Statement.{statement}
 use Rattle.accept.proofs.row_accepted.Tie as tie
@@ -19,7 +21,7 @@ returns : tie.Need-returns
 unfolding rowAccepted good
 returns c =
     rw (
-      ← c .before .before .before .before .is-configured .ensures,
+      ← (c .before .before .before .before .is-configured .ensures ∙ ap (λ p. configured p (c .before .before .before .before .before .args .o)) (c .before .before .before .before .before .pre .0)),
       c .before .before .before .if1 .taken,
       ← c .before .before .kind-at .ensures,
       le-leb _ _ (c .before .if2 .taken),
@@ -30,7 +32,7 @@ returns-2 : tie.Need-returns-2
 unfolding rowAccepted good
 returns-2 c =
     rw (
-      ← c .before .before .before .is-configured .ensures,
+      ← (c .before .before .before .is-configured .ensures ∙ ap (λ p. configured p (c .before .before .before .before .args .o)) (c .before .before .before .before .pre .0)),
       c .before .before .if1 .taken,
       ← c .before .kind-at .ensures,
       lt-leb _ _ (c .if2 .left),
@@ -43,7 +45,7 @@ returns-3 : tie.Need-returns-3
 unfolding rowAccepted good
 returns-3 c =
     rw (
-      ← c .before .before .is-configured .ensures,
+      ← (c .before .before .is-configured .ensures ∙ ap (λ p. configured p (c .before .before .before .args .o)) (c .before .before .before .pre .0)),
       c .before .if1 .left,
       ← c .row-empty .ensures,
     )

@@ -12,10 +12,10 @@ use Rattle.accept.proofs.rows_accepted.Statement.{statement}
 use Rattle.accept.proofs.rows_accepted.Tie as tie
 
 abbrev Inv-loop : tie.InvT-loop
-Inv-loop h table o₀ o = (o ≤ 8) × (allBelow o (rowAccepted (config h table)) ≡ true)
+Inv-loop h places table o₀ o = (o ≤ 8) × (allBelow o (rowAccepted (config h table)) ≡ true)
 
 abbrev μ-loop : tie.MeasureT-loop
-μ-loop h table o₀ o = 8 - o
+μ-loop h places table o₀ o = 8 - o
 
 loop-holds : tie.Need-loop-holds Inv-loop μ-loop
 loop-holds c = (search needs, all-none _)

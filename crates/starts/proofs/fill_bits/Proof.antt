@@ -1,61 +1,59 @@
--- `starts::fill_bits` meets its contract. The loop's invariant: the words passed are those of the list. Assumes nothing.
-use mathlib.Core.Path.{_≡_, refl}
-use Prim.Native.Nat.{_-_, _<_, _≤_}
+-- `starts::fill_bits` meets its contract: three fills, or one. Assumes nothing.
+use mathlib.Core.Path.{_≡_}
 use native.Mathlib.Omega.{arith}
-use lib.ListN.{length}
 use borrow.Author.Needs.{needs}
-use Rattle.ways.specs.Calls.{freshWord}
-use Rattle.starts.specs.Fill.{Written, written-more, written-end}
+use Rattle.starts.specs.Fill.{all-filled, parts-filled, word-free, word-held}
 use Rattle.starts.proofs.fill_bits.Statement.{statement}
 use Rattle.starts.proofs.fill_bits.Tie as tie
 
-abbrev Inv-loop : tie.InvT-loop
-Inv-loop bits₀ f n w₀ bits w = (w ≤ n) × ((length bits ≡ length bits₀) × Written (freshWord f) w bits)
+fill-words-requires : tie.Need-fill-words-requires
+fill-words-requires c κs = search needs
 
-abbrev μ-loop : tie.MeasureT-loop
-μ-loop bits₀ f n w₀ bits w = n - w
+add-fill-words : tie.Need-add-fill-words
+add-fill-words c = search needs
 
-loop-holds : tie.Need-loop-holds Inv-loop μ-loop
-loop-holds c = (search needs, (refl, λ i l. absurd (omega arith)))
-
-bits-word-at-requires : tie.Need-bits-word-at-requires Inv-loop μ-loop
+bits-word-at-requires : tie.Need-bits-word-at-requires
 bits-word-at-requires c κs = search needs
 
-mul-bits : tie.Need-mul-bits Inv-loop μ-loop
-mul-bits c = search needs
+fill-words-requires-2 : tie.Need-fill-words-requires-2
+fill-words-requires-2 c κs = (search needs, omega (arith, c .before .before .before .before .fill-words .ensures .len))
 
-slice-write-bits : tie.Need-slice-write-bits Inv-loop μ-loop
-slice-write-bits c = search needs
+add-fill-words-2 : tie.Need-add-fill-words-2
+add-fill-words-2 c = search needs
 
-add-w : tie.Need-add-w Inv-loop μ-loop
-add-w c = search needs
+fill-words-requires-3 : tie.Need-fill-words-requires-3
+fill-words-requires-3 c κs = (omega arith, omega (arith, c .before .before .before .before .before .before .before .before .fill-words .ensures .len, c .before .before .before .fill-words2 .ensures .len))
 
-loop-less : tie.Need-loop-less Inv-loop μ-loop
-loop-less c = search needs
+fill-words-requires-4 : tie.Need-fill-words-requires-4
+fill-words-requires-4 c κs = search needs
 
-loop-again : tie.Need-loop-again Inv-loop μ-loop
-loop-again c =
-    let l : c .before .before .loop .w < length (c .before .before .loop .bits) = omega arith in
-    (search needs, (search needs, written-more _ (c .before .before .loop .bits) _ _ l (c .bits-word-at .ensures) (c .before .before .loop .inv .1 .1)))
+same-length : tie.Need-same-length
+same-length c = omega (arith, c .before .before .before .before .before .before .before .before .before .before .before .fill-words .ensures .len, c .before .before .before .before .before .before .fill-words2 .ensures .len, c .before .before .fill-words3 .ensures .len)
 
-same-length : tie.Need-same-length Inv-loop μ-loop
-same-length c = search needs
+returns : tie.Need-returns
+returns c =
+    parts-filled _ (c .before .before .before .before .before .before .before .before .before .before .before .before .before .before .before .args .bits .now) _ _ _ _ _ _ _ (c .before .before .before .before .before .before .before .before .before .before .before .before .before .if1 .taken)
+    (λ i l. word-free (c .before .before .before .before .before .before .before .before .before .before .before .before .before .before .before .args .f) i l) (c .before .before .before .before .before .before .before .bits-word-at .ensures) (λ i l. word-held (c .before .before .before .before .before .before .before .before .before .before .before .before .before .before .before .args .f) i l)
+    (c .before .before .before .before .before .before .before .before .before .before .before .fill-words .ensures) (c .before .before .before .before .before .before .fill-words2 .ensures) (c .before .before .fill-words3 .ensures)
 
-returns : tie.Need-returns Inv-loop μ-loop
-returns c = written-end _ _ (c .before .before .before .args .bits .now) _ (c .before .loop .inv .1 .0) (c .loop-test .left) (c .before .loop .inv .1 .1)
+same-length-2 : tie.Need-same-length-2
+same-length-2 c = c .before .before .fill-words4 .ensures .len
+
+returns-2 : tie.Need-returns-2
+returns-2 c = all-filled _ (c .before .before .before .before .before .before .args .bits .now) _ _ (λ i l. word-free (c .before .before .before .before .before .before .args .f) i (omega arith)) (c .before .before .fill-words4 .ensures)
 
 pub fill-bits-spec : {M : Type 1} → statement M
 fill-bits-spec =
     tie.close
     (tie.spec
-    Inv-loop
-    μ-loop
-    loop-holds
+    fill-words-requires
+    add-fill-words
     bits-word-at-requires
-    mul-bits
-    slice-write-bits
-    add-w
-    loop-less
-    loop-again
+    fill-words-requires-2
+    add-fill-words-2
+    fill-words-requires-3
+    fill-words-requires-4
     same-length
-    returns)
+    returns
+    same-length-2
+    returns-2)

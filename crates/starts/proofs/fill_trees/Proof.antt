@@ -1,61 +1,68 @@
--- `starts::fill_trees` meets its contract. The loop's invariant: the words passed are those of the list. Assumes nothing.
-use mathlib.Core.Path.{_≡_, refl}
-use Prim.Native.Nat.{_-_, _<_, _≤_}
+-- `starts::fill_trees` meets its contract: three fills, or one. Assumes nothing.
+use mathlib.Core.Path.{_≡_}
 use native.Mathlib.Omega.{arith}
-use lib.ListN.{length}
 use borrow.Author.Needs.{needs}
-use Rattle.ways.specs.Calls.{freshTree}
-use Rattle.starts.specs.Fill.{Written, written-more, written-end}
+use Rattle.starts.specs.Fill.{all-filled, parts-filled, tree-full, tree-held}
 use Rattle.starts.proofs.fill_trees.Statement.{statement}
 use Rattle.starts.proofs.fill_trees.Tie as tie
 
-abbrev Inv-loop : tie.InvT-loop
-Inv-loop trees₀ f default n t₀ trees t = (t ≤ n) × ((length trees ≡ length trees₀) × Written (freshTree 11 default f) t trees)
-
-abbrev μ-loop : tie.MeasureT-loop
-μ-loop trees₀ f default n t₀ trees t = n - t
-
-loop-holds : tie.Need-loop-holds Inv-loop μ-loop
-loop-holds c = (search needs, (refl, λ i l. absurd (omega arith)))
-
-tree-word-at-requires : tie.Need-tree-word-at-requires Inv-loop μ-loop
+tree-word-at-requires : tie.Need-tree-word-at-requires
 tree-word-at-requires c κs = search needs
 
-mul-trees : tie.Need-mul-trees Inv-loop μ-loop
-mul-trees c = search needs
+fill-entries-requires : tie.Need-fill-entries-requires
+fill-entries-requires c κs = search needs
 
-slice-write-trees : tie.Need-slice-write-trees Inv-loop μ-loop
-slice-write-trees c = search needs
+add-fill-entries : tie.Need-add-fill-entries
+add-fill-entries c = search needs
 
-add-t : tie.Need-add-t Inv-loop μ-loop
-add-t c = search needs
+tree-word-at-requires-2 : tie.Need-tree-word-at-requires-2
+tree-word-at-requires-2 c κs = search needs
 
-loop-less : tie.Need-loop-less Inv-loop μ-loop
-loop-less c = search needs
+fill-entries-requires-2 : tie.Need-fill-entries-requires-2
+fill-entries-requires-2 c κs = (search needs, omega (arith, c .before .before .before .before .fill-entries .ensures .len))
 
-loop-again : tie.Need-loop-again Inv-loop μ-loop
-loop-again c =
-    let l : c .before .before .loop .t < length (c .before .before .loop .trees) = omega arith in
-    (search needs, (search needs, written-more _ (c .before .before .loop .trees) _ _ l (c .tree-word-at .ensures) (c .before .before .loop .inv .1 .1)))
+add-fill-entries-2 : tie.Need-add-fill-entries-2
+add-fill-entries-2 c = search needs
 
-same-length : tie.Need-same-length Inv-loop μ-loop
-same-length c = search needs
+tree-word-at-requires-3 : tie.Need-tree-word-at-requires-3
+tree-word-at-requires-3 c κs = search needs
 
-returns : tie.Need-returns Inv-loop μ-loop
-returns c = written-end _ _ (c .before .before .before .args .trees .now) _ (c .before .loop .inv .1 .0) (c .loop-test .left) (c .before .loop .inv .1 .1)
+fill-entries-requires-3 : tie.Need-fill-entries-requires-3
+fill-entries-requires-3 c κs = (omega arith, omega (arith, c .before .before .before .before .before .before .before .before .before .fill-entries .ensures .len, c .before .before .before .before .fill-entries2 .ensures .len))
+
+fill-entries-requires-4 : tie.Need-fill-entries-requires-4
+fill-entries-requires-4 c κs = search needs
+
+same-length : tie.Need-same-length
+same-length c = omega (arith, c .before .before .before .before .before .before .before .before .before .before .before .before .fill-entries .ensures .len, c .before .before .before .before .before .before .before .fill-entries2 .ensures .len, c .before .before .fill-entries3 .ensures .len)
+
+returns : tie.Need-returns
+returns c =
+    parts-filled _ (c .before .before .before .before .before .before .before .before .before .before .before .before .before .before .before .before .before .args .trees .now) _ _ _ _ _ _ _ (c .before .before .before .before .before .before .before .before .before .before .before .before .before .before .if1 .taken)
+    (λ i l. rw (c .before .before .before .before .before .before .before .before .before .before .before .before .before .before .before .tree-word-at .ensures) (tree-full (c .before .before .before .before .before .before .before .before .before .before .before .before .before .before .before .before .before .args .f) i (c .before .before .before .before .before .before .before .before .before .before .before .before .before .before .before .before .before .args .default) l)) (c .before .before .before .before .before .before .before .before .tree-word-at2 .ensures)
+    (λ i l. rw (c .before .before .before .tree-word-at3 .ensures) (tree-held (c .before .before .before .before .before .before .before .before .before .before .before .before .before .before .before .before .before .args .f) i (c .before .before .before .before .before .before .before .before .before .before .before .before .before .before .before .before .before .args .default) l))
+    (c .before .before .before .before .before .before .before .before .before .before .before .before .fill-entries .ensures) (c .before .before .before .before .before .before .before .fill-entries2 .ensures) (c .before .before .fill-entries3 .ensures)
+
+same-length-2 : tie.Need-same-length-2
+same-length-2 c = c .before .before .fill-entries4 .ensures .len
+
+returns-2 : tie.Need-returns-2
+returns-2 c = all-filled _ (c .before .before .before .before .before .before .before .args .trees .now) _ _ (λ i l. rw (c .before .before .before .before .before .tree-word-at .ensures) (tree-full (c .before .before .before .before .before .before .before .args .f) i (c .before .before .before .before .before .before .before .args .default) (omega arith))) (c .before .before .fill-entries4 .ensures)
 
 pub fill-trees-spec : {M : Type 1} → statement M
 fill-trees-spec =
     tie.close
     (tie.spec
-    Inv-loop
-    μ-loop
-    loop-holds
     tree-word-at-requires
-    mul-trees
-    slice-write-trees
-    add-t
-    loop-less
-    loop-again
+    fill-entries-requires
+    add-fill-entries
+    tree-word-at-requires-2
+    fill-entries-requires-2
+    add-fill-entries-2
+    tree-word-at-requires-3
+    fill-entries-requires-3
+    fill-entries-requires-4
     same-length
-    returns)
+    returns
+    same-length-2
+    returns-2)

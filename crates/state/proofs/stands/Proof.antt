@@ -1,6 +1,6 @@
 -- `state::stands` meets its contract. Assumes nothing.
 use mathlib.Core.Path.{sym, _∙_}
-use Rattle.state.specs.Exact.{frames-most, exact-says, locals-say}
+use Rattle.state.specs.Exact.{frames-most, exact-says, locals-say, inside-few}
 use Rattle.ways.specs.Standing.{standing, pastHeld}
 use borrow.Author.Tests.{eq-eqb, ne-eqb}
 use borrow.Author.Needs.{needs}
@@ -22,7 +22,8 @@ locals-stand-requires c κs =
     exact-says _ _ _ _ (sym (c .before .before .before .before .before .accepts .ensures) ∙ c .before .before .before .before .if1 .taken) (sym (c .before .before .before .lengths-exact .ensures) ∙ c .before .before .if2 .taken)
 
 apart-requires : tie.Need-apart-requires
-apart-requires c κs = search needs
+apart-requires c κs =
+    inside-few _ _ _ _ _ (sym (c .before .before .before .before .before .before .before .accepts .ensures) ∙ c .before .before .before .before .before .before .if1 .taken) (sym (c .before .before .before .before .before .lengths-exact .ensures) ∙ c .before .before .before .before .if2 .taken) (sym (c .before .locals-stand .ensures) ∙ c .if4 .taken)
 
 reserved-count-requires : tie.Need-reserved-count-requires
 reserved-count-requires c κs = search needs
