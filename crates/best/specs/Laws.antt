@@ -1,10 +1,9 @@
 -- Laws of the list of the best: it is the best m of all that was offered; best first; equals in found order; what a full list admits. Assumes nothing.
-use mathlib.Core.Path.{_≡_, refl, ap, sym, _∙_}
+use mathlib.Core.Path.{_≡_, refl, ap, _∙_}
 use mathlib.Core.Bool.{Bool, true, false}
 use mathlib.Core.List.{List, [], _∷_, _++_, append-nil}
 use Prim.Native.Nat.{ℕ, zero, suc, _+_, _<_, _≤_}
 use native.Mathlib.Omega.{arith}
-use native.Mathlib.Nat.{le-refl, lt-suc-self}
 use lib.ListN.{length, take}
 use lib.Seq.{take-take, take-at}
 use lib.Dec.{ltb}

@@ -3,7 +3,6 @@ use rules::Header;
 use rules::Kind;
 use rules::Request;
 use rules::Tree;
-use ways::Got;
 use ways::Walk;
 ghost use mathlib.Core.Path.{_≡_};
 ghost use Prim.Native.Nat.{_+_, _*_, _%_, _^_, _<_, _≤_};
@@ -12,7 +11,6 @@ ghost use Rattle.rules.specs.Base.{bitOf};
 ghost use Rattle.rules.specs.Words.{config};
 ghost use Rattle.rules.specs.Policy.{policyOf};
 ghost use Rattle.ways.specs.Walk.{place, ratedIn, rate, admit};
-ghost use Rattle.best.specs.Ends.{ends};
 ghost use Rattle.best.specs.List.{ratingOf, listOf};
 
 // x modulo n, with no division where x is below 2n.
@@ -117,18 +115,6 @@ pub fn key(r: usize, free: usize) -> usize
     ensures { λ k. ⌜ (k ≡ 2 * r + bitOf (eqb free 2048)) × ((r ≤ k) × (k < 1024)) ⌝ }
 {
     if free == 2048 { 2 * r + 1 } else { 2 * r }
-}
-
-// Whether a route that came back so is the last: a frame, or stuck.
-pub fn ends(g: Got) -> bool
-    ensures { λ r. ⌜ r ≡ ends g ⌝ }
-{
-    match g {
-        Got::Done { frame: _, class: _ } => true,
-        Got::Missed => false,
-        Got::MissedAt(_) => false,
-        Got::Stuck => true,
-    }
 }
 
 // A list of the best m, a rated tree offered: it goes before the first that is strictly worse, the last of a full list falls out.

@@ -4,37 +4,29 @@ use mathlib.Core.Bool.{Bool, true, false}
 use mathlib.Core.List.{List}
 use Prim.Native.Nat.{ℕ, suc, _+_, _-_, _<_, _≤_}
 use native.Mathlib.Omega.{arith}
-use Rattle.rules.specs.Base.{ifte, Out, out}
+use Rattle.rules.specs.Base.{Out, out}
 use Rattle.rules.specs.Words.{Config, localsOf, slot}
 use Rattle.rules.specs.Locals.{localClear}
 use Rattle.rules.specs.declared.Local.{Local}
-use Rattle.rules.specs.declared.Took.{Took}
-use Rattle.rules.specs.declared.Took.the-variants as Took
-use Rattle.ways.specs.State.{State, onTook, onSwap, unreserve, unreserveLocal}
+use Rattle.ways.specs.State.{State, onSwap, unreserveLocal}
 use Rattle.ways.specs.Calls.{drainLocals, onDrained, drainClasses}
+use Rattle.steps.specs.Returned.{onReturned, local-returned}
 
 -- the local at place j, of class k, becomes absent and its reservation is returned; false where that is stuck
 unfoldable pub drainOne : Config → ℕ → ℕ → State → Out Bool State
 drainOne c k j s = onSwap (localClear (s .locals) j) s (λ l s1. unreserveLocal c l k s1 (out true) (out false))
 
 -- what follows a return that is not stuck
-took-next : (x : Out Took (List ℕ)) (s : State) (next : State → Out Bool State)
-    → onTook x s (λ e. next) (out false) ≡ onDrained (onTook x s (λ e. out true) (out false)) next
-unfolding onTook onDrained
-took-next (out (Took.Yes e) t) s next = refl
-took-next (out Took.No t) s next = refl
-
--- the same where there may be nothing to return
-if-next : (b : Bool) (x y : Out Bool State) (s : State) (next : State → Out Bool State) → x ≡ onDrained y next
-    → ifte b (λ _. x) (λ _. next s) ≡ onDrained (ifte b (λ _. y) (λ _. out true s)) next
-unfolding ifte onDrained
-if-next true x y s next e = e
-if-next false x y s next e = refl
+returned-next : (x : Out Bool (List ℕ)) (s : State) (next : State → Out Bool State)
+    → onReturned x s next (out false) ≡ onDrained (onReturned x s (out true) (out false)) next
+unfolding onReturned onDrained
+returned-next (out true t) s next = refl
+returned-next (out false t) s next = refl
 
 local-next : (c : Config) (l : Local) (k : ℕ) (s : State) (next : State → Out Bool State)
     → unreserveLocal c l k s next (out false) ≡ onDrained (unreserveLocal c l k s (out true) (out false)) next
-unfolding unreserveLocal unreserve
-local-next c l k s next = if-next (l .present) _ _ s next (took-next _ s next)
+local-next c l k s next =
+    rw (local-returned s next (out false) c l k, local-returned s (out true) (out false) c l k) (returned-next _ s next)
 
 module _ (c : Config) (last : ℕ) (s : State) where
   -- no local is left

@@ -1,6 +1,5 @@
 // What a drain does once the state test has passed: by class, then index, each reservation is unreserved.
 use rules::Header;
-use rules::Took;
 use ways::Outcome;
 use ways::Refusal;
 ghost use mathlib.Core.Path.{_≡_};
@@ -25,14 +24,7 @@ fn drain_local(
         ≡ drainOne (config h (now (table .entry))) class j (fresh (now (trees .entry)) (now (locals .entry)) b)) ⌝ }
 {
     let l = local::clear(locals, j);
-    if l.present {
-        match trees::unreserve(h, table, trees, l.row / 32, class, l.free) {
-            Took::No => false,
-            Took::Yes(_) => true,
-        }
-    } else {
-        true
-    }
+    steps::unreserve_local(h, table, trees, class, l)
 }
 
 // The locals of a class, by index.

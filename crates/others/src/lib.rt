@@ -6,11 +6,9 @@ use rules::Local;
 use rules::Name;
 use rules::Payer;
 use rules::Request;
-use rules::Took;
-use ways::Got;
 use ways::Routed;
 ghost use mathlib.Core.Path.{_≡_};
-ghost use Prim.Native.Nat.{_+_, _*_, _^_, _<_, _≤_};
+ghost use Prim.Native.Nat.{_+_, _^_, _<_, _≤_};
 ghost use Rattle.rules.specs.Words.{config};
 ghost use Rattle.ways.specs.State.{st, ended, indexOf};
 ghost use Rattle.ways.specs.Locals.{payFrom, stealLocal, demoteTo, moveFrom, demoteLocal};
@@ -18,7 +16,7 @@ ghost use Rattle.ways.specs.Get.{lastRoutes};
 ghost use Rattle.ways.specs.Fits.{Fits};
 
 // The given index, 0 if none.
-pub fn index_of(local: Given) -> usize
+fn index_of(local: Given) -> usize
     ensures { λ r. ⌜ r ≡ indexOf local ⌝ }
 {
     match local {
@@ -45,45 +43,20 @@ fn pay_from(
         ≡ payFrom (config h (now (table .entry))) q name payer (st (now (trees .entry)) (now (locals .entry)) (now (bits .entry)) looks tries))
         × ((r .looks ≤ looks) × (r .tries ≤ tries + 1)) ⌝ }
 {
-    match payer {
-        Payer::Nobody => Routed {
-            got: Got::Missed,
-            looks: looks,
-            tries: tries,
-        },
-        Payer::Local { class, slot } => {
-            match local::take(locals, slot, name, bits::frames(q.order) as usize) {
-                Held::Row(row) => steal::ask_lower(
-                    h,
-                    table,
-                    trees,
-                    locals,
-                    bits,
-                    q,
-                    name,
-                    row / 32,
-                    row,
-                    class,
-                    looks,
-                    tries,
-                ),
-                Held::Few { row: _, free: _ } => Routed {
-                    got: Got::Missed,
-                    looks: looks,
-                    tries: tries,
-                },
-                Held::Absent => Routed {
-                    got: Got::Missed,
-                    looks: looks,
-                    tries: tries,
-                },
-            }
+    let Payer::Local { class, slot } = payer else {
+        return ends::missed(looks, tries);
+    };
+    match local::take(locals, slot, name, bits::frames(q.order) as usize) {
+        Held::Row(row) => {
+            steps::ask_lower(h, table, trees, bits, q, name, row, class, looks, tries)
         }
+        Held::Few { row: _, free: _ } => ends::missed(looks, tries),
+        Held::Absent => ends::missed(looks, tries),
     }
 }
 
 // Steal from locals: over classes c, c+1, .. modulo 8 whose kind is Steal or Match.
-pub fn steal_local(
+fn steal_local(
     h: Header,
     table: &[u32; 64],
     trees: &mut [u32],
@@ -122,78 +95,29 @@ fn demote_to(
     q: Request,
     name: Name,
     l: Local,
-    local: Given,
     looks: usize,
     tries: usize,
 ) -> Routed
-    requires { ⌜ Fits h q × ((indexOf local < 2 ^ 32) × ((l .free < 2 ^ 32) × ((looks < 2 ^ 32) × (tries < 2 ^ 32)))) ⌝ }
+    requires { ⌜ Fits h q × ((l .free < 2 ^ 32) × ((looks < 2 ^ 32) × (tries < 2 ^ 32))) ⌝ }
     ensures { λ r. ⌜ (ended r (now (trees .exit)) (now (locals .exit)) (now (bits .exit))
-        ≡ demoteTo (config h (now (table .entry))) q name l local (st (now (trees .entry)) (now (locals .entry)) (now (bits .entry)) looks tries))
+        ≡ demoteTo (config h (now (table .entry))) q name l (q .local) (st (now (trees .entry)) (now (locals .entry)) (now (bits .entry)) looks tries))
         × ((r .looks ≤ looks) × (r .tries ≤ tries + 1)) ⌝ }
 {
+    let local = q.local;
     match local {
         Given::Local(i) => {
             let old = local::swap(locals, words::slot(h, q.class, i), l);
-            if old.present {
-                match trees::unreserve(h, table, trees, old.row / 32, q.class, old.free) {
-                    Took::Yes(_) => steal::ask_lower(
-                        h,
-                        table,
-                        trees,
-                        locals,
-                        bits,
-                        q,
-                        name,
-                        l.row / 32,
-                        l.row,
-                        q.class,
-                        looks,
-                        tries,
-                    ),
-                    Took::No => Routed {
-                        got: Got::Stuck,
-                        looks: looks,
-                        tries: tries,
-                    },
-                }
-            } else {
-                steal::ask_lower(
-                    h,
-                    table,
-                    trees,
-                    locals,
-                    bits,
-                    q,
-                    name,
-                    l.row / 32,
-                    l.row,
-                    q.class,
-                    looks,
-                    tries,
-                )
+            if !steps::unreserve_local(h, table, trees, q.class, old) {
+                return ends::stuck(looks, tries);
             }
+            steps::ask_lower(h, table, trees, bits, q, name, l.row, q.class, looks, tries)
         }
-        Given::Nothing => match trees::unreserve(h, table, trees, l.row / 32, q.class, l.free) {
-            Took::Yes(_) => steal::ask_lower(
-                h,
-                table,
-                trees,
-                locals,
-                bits,
-                q,
-                name,
-                l.row / 32,
-                l.row,
-                q.class,
-                looks,
-                tries,
-            ),
-            Took::No => Routed {
-                got: Got::Stuck,
-                looks: looks,
-                tries: tries,
-            },
-        },
+        Given::Nothing => {
+            if !steps::unreserve(h, table, trees, l.row / 32, q.class, l.free) {
+                return ends::stuck(looks, tries);
+            }
+            steps::ask_lower(h, table, trees, bits, q, name, l.row, q.class, looks, tries)
+        }
     }
 }
 
@@ -215,48 +139,21 @@ fn move_from(
         ≡ moveFrom (config h (now (table .entry))) q name payer (st (now (trees .entry)) (now (locals .entry)) (now (bits .entry)) looks tries))
         × ((r .looks ≤ looks) × (r .tries ≤ tries + 1)) ⌝ }
 {
-    match payer {
-        Payer::Nobody => Routed {
-            got: Got::Missed,
-            looks: looks,
-            tries: tries,
-        },
-        Payer::Local { class: _, slot } => {
-            match local::take(locals, slot, name, bits::frames(q.order) as usize) {
-                Held::Row(_) => {
-                    let l = local::clear(locals, slot);
-                    let local = q.local;
-                    demote_to(
-                        h,
-                        table,
-                        trees,
-                        locals,
-                        bits,
-                        q,
-                        name,
-                        l,
-                        local,
-                        looks,
-                        tries,
-                    )
-                }
-                Held::Few { row: _, free: _ } => Routed {
-                    got: Got::Missed,
-                    looks: looks,
-                    tries: tries,
-                },
-                Held::Absent => Routed {
-                    got: Got::Missed,
-                    looks: looks,
-                    tries: tries,
-                },
-            }
+    let Payer::Local { class: _, slot } = payer else {
+        return ends::missed(looks, tries);
+    };
+    match local::take(locals, slot, name, bits::frames(q.order) as usize) {
+        Held::Row(_) => {
+            let l = local::clear(locals, slot);
+            demote_to(h, table, trees, locals, bits, q, name, l, looks, tries)
         }
+        Held::Few { row: _, free: _ } => ends::missed(looks, tries),
+        Held::Absent => ends::missed(looks, tries),
     }
 }
 
 // Demote: over the other classes of kind Demote.
-pub fn demote_local(
+fn demote_local(
     h: Header,
     table: &[u32; 64],
     trees: &mut [u32],
@@ -304,10 +201,8 @@ pub fn last_routes(
 {
     let r = steal_local(h, table, trees, locals, bits, q, name, looks, tries);
     let got = r.got;
-    match got {
-        Got::Done { frame: _, class: _ } => r,
-        Got::Missed => demote_local(h, table, trees, locals, bits, q, name, r.looks, r.tries),
-        Got::MissedAt(_) => demote_local(h, table, trees, locals, bits, q, name, r.looks, r.tries),
-        Got::Stuck => r,
+    if ends::ends(got) {
+        return r;
     }
+    demote_local(h, table, trees, locals, bits, q, name, r.looks, r.tries)
 }

@@ -1,19 +1,19 @@
 -- A tree that a failed own reservation gives as the start of a search comes out of a local's word, and is small. Assumes nothing.
-use mathlib.Core.Path.{_≡_, refl, sym, ap, _∙_, subst}
+use mathlib.Core.Path.{_≡_, sym, ap, _∙_, subst}
 use native.Mathlib.Nat.{div-le-self, mul-le-mul-right, le-trans}
-use Prim.Native.Nat.{ℕ, zero, suc, _+_, _-_, _*_, _/_, _^_, _<_, _≤_}
+use Prim.Native.Nat.{ℕ, zero, suc, _-_, _*_, _/_, _^_, _<_, _≤_}
 use native.Mathlib.Omega.{arith}
 use mathlib.Core.List.{List}
 use lib.ListN.{getD}
 use lib.Dec.{ltb}
-use Rattle.rules.specs.Base.{Out, out}
-use Rattle.rules.specs.Words.{Config, config, localOf, localAt, slot}
+use Rattle.rules.specs.Base.{out}
+use Rattle.rules.specs.Words.{Config, config, localOf}
 use Rattle.rules.specs.declared.Header.{Header}
 use Rattle.rules.specs.declared.Name.{Name}
 use Rattle.rules.specs.declared.Request.{Request}
 use Rattle.ways.specs.declared.Got.{Got}
 use Rattle.ways.specs.declared.Got.the-variants as Got
-use Rattle.ways.specs.State.{State, Way, size, done, missed, missedAt, putEntry, setRow, withTrees, withLocals, withTry}
+use Rattle.ways.specs.State.{State, Way, size, done, missed, missedAt}
 use Rattle.ways.specs.Locals.{takeBy, topBy, topUp, getLocal}
 use Rattle.step_laws.specs.Steps.{ifte-ind, held-ind, sync-ind, put-ind, found-ind}
 

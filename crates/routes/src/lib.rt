@@ -34,37 +34,13 @@ fn after_own(
         × ((r .looks ≤ looks) × (r .tries ≤ tries + 3)) ⌝ }
 {
     let name = Name::Frame(f);
-    let r = steal::steal_global(
-        h,
-        table,
-        trees,
-        locals,
-        bits,
-        q,
-        name,
-        f / 2048,
-        looks,
-        tries,
-    );
+    let t = f / 2048;
+    let r = steal::steal_global(h, table, trees, locals, bits, q, name, t, looks, tries);
     let got = r.got;
-    match got {
-        Got::Done { frame: _, class: _ } => r,
-        Got::Missed => others::last_routes(
-            h,
-            table,
-            trees,
-            locals,
-            bits,
-            q,
-            name,
-            r.looks,
-            r.tries,
-        ),
-        Got::MissedAt(_) => {
-            others::last_routes(h, table, trees, locals, bits, q, name, r.looks, r.tries)
-        }
-        Got::Stuck => r,
+    if ends::ends(got) {
+        return r;
     }
+    others::last_routes(h, table, trees, locals, bits, q, name, r.looks, r.tries)
 }
 
 // Named frame: own local if given; steal globally from its tree; steal from locals; demote.
@@ -85,25 +61,13 @@ fn get_at(
         × ((r .looks ≤ looks) × (r .tries ≤ tries + 4)) ⌝ }
 {
     let local = q.local;
-    let r = take::own_local(
-        h,
-        table,
-        trees,
-        locals,
-        bits,
-        q,
-        Name::Frame(f),
-        local,
-        looks,
-        tries,
-    );
+    let name = Name::Frame(f);
+    let r = take::own_local(h, table, trees, locals, bits, q, name, local, looks, tries);
     let got = r.got;
-    match got {
-        Got::Done { frame: _, class: _ } => r,
-        Got::Missed => after_own(h, table, trees, locals, bits, q, f, r.looks, r.tries),
-        Got::MissedAt(_) => after_own(h, table, trees, locals, bits, q, f, r.looks, r.tries),
-        Got::Stuck => r,
+    if ends::ends(got) {
+        return r;
     }
+    after_own(h, table, trees, locals, bits, q, f, r.looks, r.tries)
 }
 
 // n / m, rounded down, times i.
@@ -144,19 +108,8 @@ fn get_reserving(
         ≡ getReserving (config h (now (table .entry))) q j start (st (now (trees .entry)) (now (locals .entry)) (now (bits .entry)) looks tries))
         × ((r .looks ≤ looks + 4096) × (r .tries ≤ tries + 8193)) ⌝ }
 {
-    let r = take::get_local(
-        h,
-        table,
-        trees,
-        locals,
-        bits,
-        q,
-        Name::Any,
-        j,
-        1,
-        looks,
-        tries,
-    );
+    let name = Name::Any;
+    let r = take::get_local(h, table, trees, locals, bits, q, name, j, 1, looks, tries);
     let got = r.got;
     match got {
         Got::Done { frame: _, class: _ } => r,
@@ -222,24 +175,10 @@ fn get_any(
     let name = Name::Any;
     let r = search_trees(h, table, trees, locals, bits, q, local, looks, tries);
     let got = r.got;
-    match got {
-        Got::Done { frame: _, class: _ } => r,
-        Got::Missed => others::last_routes(
-            h,
-            table,
-            trees,
-            locals,
-            bits,
-            q,
-            name,
-            r.looks,
-            r.tries,
-        ),
-        Got::MissedAt(_) => {
-            others::last_routes(h, table, trees, locals, bits, q, name, r.looks, r.tries)
-        }
-        Got::Stuck => r,
+    if ends::ends(got) {
+        return r;
     }
+    others::last_routes(h, table, trees, locals, bits, q, name, r.looks, r.tries)
 }
 
 // The routes of get, with no counts yet.

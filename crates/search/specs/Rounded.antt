@@ -1,13 +1,12 @@
 -- The start rounded down, by trying the powers of two in turn. Assumes nothing.
-use mathlib.Core.Path.{_≡_, refl, sym}
-use mathlib.Core.Bool.{Bool, true, false}
+use mathlib.Core.Path.{_≡_}
+use mathlib.Core.Bool.{false}
 use mathlib.Core.Logic.{⊎-elim}
 use Prim.Native.Nat.{ℕ, _+_, _*_, _/_, _%_, _^_, _<_, _≤_}
 use native.Mathlib.Omega.{arith}
 use native.Mathlib.Nat.{mod-eq-of-lt, div-mul-le-self, eq-or-lt-of-le}
 use lib.Dec.{leb}
 use borrow.Author.Tests.{le-leb, lt-leb}
-use Rattle.rules.specs.Base.{firstIn}
 use Rattle.lower_laws.specs.First.{first-at, first-none}
 use Rattle.ways.specs.Search.{near, roundDown, roundedStart}
 

@@ -6,7 +6,9 @@ use ways::Walk;
 ghost use mathlib.Core.Path.{_≡_};
 ghost use Prim.Native.Nat.{_+_, _^_, _<_, _≤_};
 ghost use Rattle.rules.specs.Words.{config, treeCount};
+ghost use Rattle.ways.specs.declared.Walk.the-variants as Walk;
 ghost use Rattle.ways.specs.State.{st, ended};
+ghost use Rattle.ways.specs.Walk.{searchBest};
 ghost use Rattle.ways.specs.Search.{near, roundedStart, searchFar, searchFrom, searchAndReserve, searchAndSteal};
 ghost use Rattle.ways.specs.Fits.{Fits};
 
@@ -19,7 +21,7 @@ pub fn count(frames: usize) -> usize
 }
 
 // near = max(n / 16, 4).
-pub fn near(n: usize) -> usize
+fn near(n: usize) -> usize
     requires { ⌜ n ≤ 1024 ⌝ }
     ensures { λ r. ⌜ (r ≡ near n) × (r ≤ 64) ⌝ }
 {
@@ -27,7 +29,7 @@ pub fn near(n: usize) -> usize
 }
 
 // The start rounded down to a multiple of the least power of two not below 2 × near.
-pub fn rounded_start(n: usize, start: usize) -> usize
+fn rounded_start(n: usize, start: usize) -> usize
     requires { ⌜ (n ≤ 1024) × (start < 2 ^ 44) ⌝ }
     ensures { λ r. ⌜ (r ≡ roundedStart n start) × (r ≤ start) ⌝ }
 {
@@ -43,7 +45,7 @@ pub fn rounded_start(n: usize, start: usize) -> usize
 }
 
 // The far walk: 0 to n, with a list of 8.
-pub fn search_far(
+fn search_far(
     h: Header,
     table: &[u32; 64],
     trees: &mut [u32],
@@ -61,6 +63,7 @@ pub fn search_far(
         × ((r .looks ≤ looks + 1024) × (r .tries ≤ tries + 1032)) ⌝ }
 {
     let n = count(h.frames);
+    let w = Walk::Far;
     walk::search_best(
         h,
         table,
@@ -68,7 +71,7 @@ pub fn search_far(
         locals,
         bits,
         q,
-        Walk::Far,
+        w,
         j,
         8,
         n,
@@ -80,8 +83,49 @@ pub fn search_far(
     )
 }
 
-// Below order 9 the near walk, 1 to near, with a list of 3; then the far walk.
-pub fn search_from(
+// The near walk: 1 to near, with a list of 3.
+fn search_near(
+    h: Header,
+    table: &[u32; 64],
+    trees: &mut [u32],
+    locals: &mut [u64],
+    bits: &mut [u64],
+    q: Request,
+    j: usize,
+    start: usize,
+    looks: usize,
+    tries: usize,
+) -> Routed
+    requires { ⌜ Fits h q × ((start < 2 ^ 44) × ((looks < 2 ^ 29) × (tries < 2 ^ 29))) ⌝ }
+    ensures { λ r. ⌜ (ended r (now (trees .exit)) (now (locals .exit)) (now (bits .exit))
+        ≡ searchBest (config h (now (table .entry))) q Walk.Near j 3 (treeCount 11 (h .frames)) start 1 (near (treeCount 11 (h .frames)))
+        (st (now (trees .entry)) (now (locals .entry)) (now (bits .entry)) looks tries))
+        × ((r .looks ≤ looks + 64) × (r .tries ≤ tries + 67)) ⌝ }
+{
+    let n = count(h.frames);
+    let w = Walk::Near;
+    let last = near(n);
+    walk::search_best(
+        h,
+        table,
+        trees,
+        locals,
+        bits,
+        q,
+        w,
+        j,
+        3,
+        n,
+        start,
+        1,
+        last,
+        looks,
+        tries,
+    )
+}
+
+// Below order 9 the near walk; then the far walk.
+fn search_from(
     h: Header,
     table: &[u32; 64],
     trees: &mut [u32],
@@ -99,27 +143,9 @@ pub fn search_from(
         × ((r .looks ≤ looks + 2048) × (r .tries ≤ tries + 2048)) ⌝ }
 {
     if q.order < 9 {
-        let n = count(h.frames);
-        let last = near(n);
-        let r = walk::search_best(
-            h,
-            table,
-            trees,
-            locals,
-            bits,
-            q,
-            Walk::Near,
-            j,
-            3,
-            n,
-            start,
-            1,
-            last,
-            looks,
-            tries,
-        );
-        let g = r.got;
-        if best::ends(g) {
+        let r = search_near(h, table, trees, locals, bits, q, j, start, looks, tries);
+        let got = r.got;
+        if ends::ends(got) {
             return r;
         }
         return search_far(h, table, trees, locals, bits, q, j, start, r.looks, r.tries);
@@ -168,6 +194,7 @@ pub fn search_and_steal(
         × ((r .looks ≤ looks + 2048) × (r .tries ≤ tries + 2048)) ⌝ }
 {
     let n = count(h.frames);
+    let w = Walk::Stealing;
     walk::search_best(
         h,
         table,
@@ -175,7 +202,7 @@ pub fn search_and_steal(
         locals,
         bits,
         q,
-        Walk::Stealing,
+        w,
         0,
         8,
         n,

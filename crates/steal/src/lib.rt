@@ -6,55 +6,15 @@ use rules::Name;
 use rules::Request;
 use rules::Taken;
 use rules::Took;
-use ways::Got;
 use ways::Routed;
 use ways::Walk;
 ghost use mathlib.Core.Path.{_≡_};
 ghost use Prim.Native.Nat.{_+_, _-_, _*_, _^_, _<_, _≤_};
 ghost use Rattle.rules.specs.Words.{config};
-ghost use Rattle.ways.specs.State.{st, ended, done, stuck, askLower, unreserveLocal};
+ghost use Rattle.rules.specs.Locals.{reservation};
+ghost use Rattle.ways.specs.State.{st, ended};
 ghost use Rattle.ways.specs.Walk.{stealGlobal, reserved, reserveOrSteal, access};
 ghost use Rattle.ways.specs.Fits.{Fits};
-
-// The lower is asked once, at a row of tree t, for frames that were taken of that tree; refused, they go to its entry.
-pub fn ask_lower(
-    h: Header,
-    table: &[u32; 64],
-    trees: &mut [u32],
-    locals: &mut [u64],
-    bits: &mut [u64],
-    q: Request,
-    name: Name,
-    t: usize,
-    row: usize,
-    class: usize,
-    looks: usize,
-    tries: usize,
-) -> Routed
-    requires { ⌜ Fits h q × ((looks < 2 ^ 32) × (tries < 2 ^ 32)) ⌝ }
-    ensures { λ r. ⌜ (ended r (now (trees .exit)) (now (locals .exit)) (now (bits .exit))
-        ≡ askLower (config h (now (table .entry))) q name t row class (st (now (trees .entry)) (now (locals .entry)) (now (bits .entry)) looks tries))
-        × ((r .looks ≤ looks) × (r .tries ≤ tries + 1)) ⌝ }
-{
-    match lower::lower_get(bits, row, q.order, name) {
-        Found::At(f) => Routed {
-            got: Got::Done {
-                frame: f,
-                class: class,
-            },
-            looks: looks,
-            tries: tries + 1,
-        },
-        Found::Nothing => {
-            trees::put(h, table, trees, t, bits::frames(q.order) as usize);
-            Routed {
-                got: Got::Missed,
-                looks: looks,
-                tries: tries + 1,
-            }
-        }
-    }
-}
 
 // Steal globally, from the entry of tree t.
 pub fn steal_global(
@@ -75,70 +35,10 @@ pub fn steal_global(
         × ((r .looks ≤ looks) × (r .tries ≤ tries + 1)) ⌝ }
 {
     match trees::steal(h, table, trees, t, q.class, bits::frames(q.order) as usize) {
-        Took::No => Routed {
-            got: Got::Missed,
-            looks: looks,
-            tries: tries,
-        },
-        Took::Yes(e) => ask_lower(
-            h,
-            table,
-            trees,
-            locals,
-            bits,
-            q,
-            name,
-            t,
-            t * 32,
-            e.class,
-            looks,
-            tries,
-        ),
-    }
-}
-
-// A reservation that left its local is returned, if there was one: how the route ends then.
-pub fn unreserve_local(
-    h: Header,
-    table: &[u32; 64],
-    trees: &mut [u32],
-    locals: &mut [u64],
-    bits: &mut [u64],
-    class: usize,
-    l: Local,
-    f: usize,
-    looks: usize,
-    tries: usize,
-) -> Routed
-    requires { ⌜ (h .default < 8) × ((class < 8) × (l .free < 2 ^ 32)) ⌝ }
-    ensures { λ r. ⌜ (ended r (now (trees .exit)) (now (locals .exit)) (now (bits .exit))
-        ≡ unreserveLocal (config h (now (table .entry))) l class (st (now (trees .entry)) (now (locals .entry)) (now (bits .entry)) looks tries) (done f class) stuck)
-        × ((r .looks ≤ looks) × (r .tries ≤ tries)) ⌝ }
-{
-    if l.present {
-        match trees::unreserve(h, table, trees, l.row / 32, class, l.free) {
-            Took::Yes(_) => Routed {
-                got: Got::Done {
-                    frame: f,
-                    class: class,
-                },
-                looks: looks,
-                tries: tries,
-            },
-            Took::No => Routed {
-                got: Got::Stuck,
-                looks: looks,
-                tries: tries,
-            },
-        }
-    } else {
-        Routed {
-            got: Got::Done {
-                frame: f,
-                class: class,
-            },
-            looks: looks,
-            tries: tries,
+        Took::No => ends::missed(looks, tries),
+        Took::Yes(e) => {
+            let row = t * 32;
+            steps::ask_lower(h, table, trees, bits, q, name, row, e.class, looks, tries)
         }
     }
 }
@@ -153,8 +53,20 @@ fn less(a: usize, b: usize) -> usize
     a - b
 }
 
+// A reservation of tree t, at its first row.
+fn reservation(t: usize, free: usize) -> Local
+    requires { ⌜ t < 2 ^ 53 ⌝ }
+    ensures { λ r. ⌜ r ≡ reservation (t * 32) free ⌝ }
+{
+    Local {
+        row: t * 32,
+        free: free,
+        present: true,
+    }
+}
+
 // Tree t was reserved with so many free: the lower is asked, the reservation stored in the local j, the one it replaces returned; refused, it is undone.
-pub fn reserved(
+fn reserved(
     h: Header,
     table: &[u32; 64],
     trees: &mut [u32],
@@ -174,46 +86,24 @@ pub fn reserved(
 {
     match lower::lower_get(bits, t * 32, q.order, Name::Any) {
         Found::At(f) => {
-            let n = bits::frames(q.order) as usize;
-            let l = local::swap(
-                locals,
-                j,
-                Local {
-                    row: t * 32,
-                    free: less(old as usize, n),
-                    present: true,
-                },
-            );
-            unreserve_local(
-                h,
-                table,
-                trees,
-                locals,
-                bits,
-                q.class,
-                l,
-                f,
-                looks,
-                tries + 1,
-            )
+            let free = less(old as usize, bits::frames(q.order) as usize);
+            let l = local::swap(locals, j, reservation(t, free));
+            if steps::unreserve_local(h, table, trees, q.class, l) {
+                return ends::done(f, q.class, looks, tries + 1);
+            }
+            ends::stuck(looks, tries + 1)
         }
-        Found::Nothing => match trees::unreserve(h, table, trees, t, q.class, old as usize) {
-            Took::Yes(_) => Routed {
-                got: Got::Missed,
-                looks: looks,
-                tries: tries + 1,
-            },
-            Took::No => Routed {
-                got: Got::Stuck,
-                looks: looks,
-                tries: tries + 1,
-            },
-        },
+        Found::Nothing => {
+            if steps::unreserve(h, table, trees, t, q.class, old as usize) {
+                return ends::missed(looks, tries + 1);
+            }
+            ends::stuck(looks, tries + 1)
+        }
     }
 }
 
 // Reserve or steal tree t for the local j.
-pub fn reserve_or_steal(
+fn reserve_or_steal(
     h: Header,
     table: &[u32; 64],
     trees: &mut [u32],
@@ -231,25 +121,12 @@ pub fn reserve_or_steal(
         × ((r .looks ≤ looks) × (r .tries ≤ tries + 1)) ⌝ }
 {
     match trees::reserve_or_steal(h, table, trees, t, q.class, bits::frames(q.order) as usize) {
-        Taken::No => Routed {
-            got: Got::Missed,
-            looks: looks,
-            tries: tries,
-        },
-        Taken::Part(e) => ask_lower(
-            h,
-            table,
-            trees,
-            locals,
-            bits,
-            q,
-            Name::Any,
-            t,
-            t * 32,
-            e.class,
-            looks,
-            tries,
-        ),
+        Taken::No => ends::missed(looks, tries),
+        Taken::Part(e) => {
+            let name = Name::Any;
+            let row = t * 32;
+            steps::ask_lower(h, table, trees, bits, q, name, row, e.class, looks, tries)
+        }
         Taken::Whole(e, old) => {
             reserved(h, table, trees, locals, bits, q, j, t, old, looks, tries)
         }

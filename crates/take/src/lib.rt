@@ -6,10 +6,9 @@ use rules::Held;
 use rules::Name;
 use rules::Request;
 use rules::Synced;
-use ways::Got;
 use ways::Routed;
 ghost use mathlib.Core.Path.{_≡_};
-ghost use Prim.Native.Nat.{_+_, _*_, _^_, _<_, _≤_};
+ghost use Prim.Native.Nat.{_+_, _^_, _<_, _≤_};
 ghost use Rattle.rules.specs.Words.{config};
 ghost use Rattle.ways.specs.State.{st, ended, indexOf};
 ghost use Rattle.ways.specs.Locals.{topUp, getLocal, ownLocal};
@@ -39,22 +38,11 @@ pub fn get_local(
         Held::Row(row) => match lower::lower_get(bits, row, q.order, name) {
             Found::At(f) => {
                 local::set_start(locals, j, f / 64);
-                Routed {
-                    got: Got::Done {
-                        frame: f,
-                        class: q.class,
-                    },
-                    looks: looks,
-                    tries: tries + 1,
-                }
+                ends::done(f, q.class, looks, tries + 1)
             }
             Found::Nothing => {
                 trees::put(h, table, trees, row / 32, n);
-                Routed {
-                    got: Got::MissedAt(row / 32),
-                    looks: looks,
-                    tries: tries + 1,
-                }
+                ends::missed_at(row / 32, looks, tries + 1)
             }
         },
         Held::Few { row, free } => {
@@ -74,16 +62,12 @@ pub fn get_local(
                 tries,
             )
         }
-        Held::Absent => Routed {
-            got: Got::Missed,
-            looks: looks,
-            tries: tries,
-        },
+        Held::Absent => ends::missed(looks, tries),
     }
 }
 
 // Sync with shortfall 2^order minus local free, no sync where that is negative; then take again.
-pub fn top_up(
+fn top_up(
     h: Header,
     table: &[u32; 64],
     trees: &mut [u32],
@@ -104,49 +88,33 @@ pub fn top_up(
         × ((r .looks ≤ looks) × (r .tries ≤ tries + 1)) ⌝ }
 {
     if syncs == 0 {
-        return Routed {
-            got: Got::MissedAt(row / 32),
-            looks: looks,
-            tries: tries,
-        };
+        return ends::missed_at(row / 32, looks, tries);
     }
     let n = bits::frames(q.order) as usize;
     if n < free {
-        return Routed {
-            got: Got::MissedAt(row / 32),
-            looks: looks,
-            tries: tries,
-        };
+        return ends::missed_at(row / 32, looks, tries);
     }
     match trees::sync(trees, row / 32, n - free) {
         Synced::Free(x) => {
-            if local::put(locals, j, row / 32, x as usize) {
-                return get_local(
-                    h,
-                    table,
-                    trees,
-                    locals,
-                    bits,
-                    q,
-                    name,
-                    j,
-                    syncs - 1,
-                    looks,
-                    tries,
-                );
+            if !local::put(locals, j, row / 32, x as usize) {
+                trees::put(h, table, trees, row / 32, x as usize);
+                return ends::missed_at(row / 32, looks, tries);
             }
-            trees::put(h, table, trees, row / 32, x as usize);
-            Routed {
-                got: Got::MissedAt(row / 32),
-                looks: looks,
-                tries: tries,
-            }
+            get_local(
+                h,
+                table,
+                trees,
+                locals,
+                bits,
+                q,
+                name,
+                j,
+                syncs - 1,
+                looks,
+                tries,
+            )
         }
-        Synced::Nothing => Routed {
-            got: Got::MissedAt(row / 32),
-            looks: looks,
-            tries: tries,
-        },
+        Synced::Nothing => ends::missed_at(row / 32, looks, tries),
     }
 }
 
@@ -173,10 +141,6 @@ pub fn own_local(
             let j = words::slot(h, q.class, i);
             get_local(h, table, trees, locals, bits, q, name, j, 1, looks, tries)
         }
-        Given::Nothing => Routed {
-            got: Got::Missed,
-            looks: looks,
-            tries: tries,
-        },
+        Given::Nothing => ends::missed(looks, tries),
     }
 }

@@ -1,2 +1,2 @@
--- what a step and a walk answer, as the definitions have it
-pub mod Seen
+-- a walk as far as the next tree that is tried at once
+pub mod Walked

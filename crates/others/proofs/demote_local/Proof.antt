@@ -3,12 +3,6 @@ use Rattle.ways.specs.Locals.{demoteLocal}
 use borrow.Author.Needs.{needs}
 use Rattle.others.proofs.demote_local.Statement.{statement}
 use Rattle.others.proofs.demote_local.Tie as tie
-use Rattle.others.proofs.demote_local.Reads as reads
-use Rattle.others.proofs.demote_local.Lts as lts
-use Rattle.bits.proofs.frames.Reads as frames-reads
-use Rattle.local.proofs.demote_any.Reads as demote-any-reads
-use Rattle.others.proofs.index_of.Reads as index-of-reads
-use Rattle.others.proofs.move_from.Reads as move-from-reads
 
 index-of-requires : tie.Need-index-of-requires
 index-of-requires c κs = search needs

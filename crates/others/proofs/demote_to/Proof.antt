@@ -1,56 +1,27 @@
 -- `others::demote_to` meets its contract. Assumes nothing.
+use Rattle.steps.specs.Returned.{local-returned, onReturned, unreserve-returned}
 use Rattle.ways.specs.Fits.{given-small}
-use Rattle.rules.specs.Base.{ifte}
 use Rattle.ways.specs.Locals.{demoteTo}
-use Rattle.ways.specs.State.{onSwap, unreserve, unreserveLocal, onTook, stuck, withTrees, withLocals}
+use Rattle.ways.specs.State.{onSwap, withLocals, withTrees}
+use borrow.Author.Tests.{not-true, not-false}
 use borrow.Author.Needs.{needs}
 use Rattle.others.proofs.demote_to.Statement.{statement}
 use Rattle.others.proofs.demote_to.Tie as tie
-use Rattle.others.proofs.demote_to.Reads as reads
-use Rattle.others.proofs.demote_to.Lts as lts
-use Rattle.local.proofs.swap.Reads as swap-reads
-use Rattle.steal.proofs.ask_lower.Reads as ask-lower-reads
-use Rattle.trees.proofs.unreserve.Reads as unreserve-reads
-use Rattle.words.proofs.slot.Reads as slot-reads
 
 enum-known-local : tie.Need-enum-known-local
 enum-known-local c = search needs
 
 slot-requires : tie.Need-slot-requires
-slot-requires c κs = (search needs, given-small _ _ (c .before .before .local .given .1) (c .before .before .before .before .before .before .before .pre .1 .0))
+slot-requires c κs = (search needs, given-small _ _ (c .before .before .local .given .1) (c .before .before .before .before .before .before .before .pre .0 .index))
 
 swap-requires : tie.Need-swap-requires
 swap-requires c κs = search needs
 
-unreserve-requires : tie.Need-unreserve-requires
-unreserve-requires c κs = search needs
+unreserve-local-requires : tie.Need-unreserve-local-requires
+unreserve-local-requires c κs = search needs
 
-enum-told : tie.Need-enum-told
-enum-told c = search needs
-
-ask-lower-requires : tie.Need-ask-lower-requires
-ask-lower-requires c κs = (c .before .before .before .before .before .before .before .before .before .before .before .before .before .before .before .before .before .before .before .before .before .before .before .pre .0, (c .before .before .before .before .before .before .before .before .before .before .before .before .before .before .before .before .before .before .before .before .before .before .before .pre .1 .1 .1 .0, c .before .before .before .before .before .before .before .before .before .before .before .before .before .before .before .before .before .before .before .before .before .before .before .pre .1 .1 .1 .1))
-
-enum-told-2 : tie.Need-enum-told-2
-enum-told-2 c = search needs
-
-ask-lower-requires-2 : tie.Need-ask-lower-requires-2
-ask-lower-requires-2 c κs = (c .before .before .before .before .before .before .before .before .before .before .before .before .before .before .before .before .pre .0, (c .before .before .before .before .before .before .before .before .before .before .before .before .before .before .before .before .pre .1 .1 .1 .0, c .before .before .before .before .before .before .before .before .before .before .before .before .before .before .before .before .pre .1 .1 .1 .1))
-
-enum-told-3 : tie.Need-enum-told-3
-enum-told-3 c = search needs
-
-unreserve-requires-2 : tie.Need-unreserve-requires-2
-unreserve-requires-2 c κs = search needs
-
-enum-told-4 : tie.Need-enum-told-4
-enum-told-4 c = search needs
-
-ask-lower-requires-3 : tie.Need-ask-lower-requires-3
-ask-lower-requires-3 c κs = (c .before .before .before .before .before .before .before .before .before .before .before .before .before .before .before .before .pre .0, (c .before .before .before .before .before .before .before .before .before .before .before .before .before .before .before .before .pre .1 .1 .1 .0, c .before .before .before .before .before .before .before .before .before .before .before .before .before .before .before .before .pre .1 .1 .1 .1))
-
-enum-told-5 : tie.Need-enum-told-5
-enum-told-5 c = search needs
+stuck-requires : tie.Need-stuck-requires
+stuck-requires c κs = search needs
 
 same-length : tie.Need-same-length
 same-length c = search needs
@@ -58,23 +29,49 @@ same-length c = search needs
 same-length-2 : tie.Need-same-length-2
 same-length-2 c = search needs
 
+returns : tie.Need-returns
+unfolding demoteTo onSwap onReturned withTrees withLocals
+returns c = (
+  rw (
+    c .before .before .before .before .before .before .before .before .before .before .before .before .local .given .1,
+    ← c .before .before .before .before .before .before .before .before .before .slot .ensures,
+    ← c .before .before .before .before .before .before .before .before .swap .ensures .0,
+    local-returned _ _ _ _ _ _,
+    ← c .before .before .before .before .unreserve-local .ensures,
+    not-true (c .before .before .before .before .unreserve-local .result) (c .before .if1 .taken),
+  ) (c .stuck .ensures .0 _ _ _),
+  (search needs, search needs),
+)
+
+ask-lower-requires : tie.Need-ask-lower-requires
+ask-lower-requires c κs = search needs
+
+enum-told : tie.Need-enum-told
+enum-told c = search needs
+
+unreserve-requires : tie.Need-unreserve-requires
+unreserve-requires c κs = search needs
+
+stuck-requires-2 : tie.Need-stuck-requires-2
+stuck-requires-2 c κs = search needs
+
 same-length-3 : tie.Need-same-length-3
 same-length-3 c = search needs
 
-returns : tie.Need-returns
-unfolding demoteTo onSwap unreserve unreserveLocal onTook stuck ifte withTrees withLocals
-returns c = (
+returns-2 : tie.Need-returns-2
+unfolding demoteTo onSwap onReturned withTrees withLocals
+returns-2 c = (
   rw (
-    c .before .before .before .before .before .before .before .before .before .before .before .before .before .before .before .before .before .before .before .before .before .before .before .before .before .local .given .1,
-    ← c .before .before .before .before .before .before .before .before .before .before .before .before .before .before .before .before .before .before .before .before .before .before .slot .ensures,
-    ← c .before .before .before .before .before .before .before .before .before .before .before .before .before .before .before .before .before .before .before .before .before .swap .ensures .0,
-    c .before .before .before .before .before .before .before .before .before .before .before .before .before .before .before .before .before .before .if1 .taken,
-    ← c .before .before .before .before .before .before .before .before .before .before .before .before .before .before .before .unreserve .ensures,
-    c .before .before .before .before .before .before .before .before .before .before .before .enum-told .given .1,
-    ← c .before .before .before .before .before .before .ask-lower .ensures .0,
-  ),
+    c .before .before .before .before .before .before .before .enum-told .given .1,
+    unreserve-returned _ _ _ _ _ _ _,
+    ← c .before .before .before .before .unreserve .ensures,
+    not-true (c .before .before .before .before .unreserve .result) (c .before .if2 .taken),
+  ) (c .stuck2 .ensures .0 _ _ _),
   (search needs, search needs),
 )
+
+ask-lower-requires-2 : tie.Need-ask-lower-requires-2
+ask-lower-requires-2 c κs = search needs
 
 same-length-4 : tie.Need-same-length-4
 same-length-4 c = search needs
@@ -82,22 +79,23 @@ same-length-4 c = search needs
 same-length-5 : tie.Need-same-length-5
 same-length-5 c = search needs
 
-returns-2 : tie.Need-returns-2
-unfolding demoteTo onSwap unreserve unreserveLocal onTook stuck ifte withTrees withLocals
-returns-2 c = (
-  rw (
-    c .before .before .before .before .before .before .before .before .before .before .before .before .before .before .local .given .1,
-    ← c .before .before .before .before .before .before .before .before .before .before .before .slot .ensures,
-    ← c .before .before .before .before .before .before .before .before .before .before .swap .ensures .0,
-    c .before .before .before .before .before .before .before .if1 .taken,
-    ← c .before .before .before .before .unreserve .ensures,
-    c .enum-told2 .given .1,
-  ),
-  (search needs, search needs),
-)
-
 same-length-6 : tie.Need-same-length-6
 same-length-6 c = search needs
+
+returns-3 : tie.Need-returns-3
+unfolding demoteTo onSwap onReturned withTrees withLocals
+returns-3 c = (
+  rw (
+    c .before .before .before .before .before .before .before .before .before .before .before .before .before .before .before .before .before .before .local .given .1,
+    ← c .before .before .before .before .before .before .before .before .before .before .before .before .before .before .before .slot .ensures,
+    ← c .before .before .before .before .before .before .before .before .before .before .before .before .before .before .swap .ensures .0,
+    local-returned _ _ _ _ _ _,
+    ← c .before .before .before .before .before .before .before .before .before .before .unreserve-local .ensures,
+    not-false (c .before .before .before .before .before .before .before .before .before .before .unreserve-local .result) (c .before .before .before .before .before .before .before .if1 .left),
+    ← c .before .before .before .before .before .before .before .before .before .before .before .before .before .before .before .before .before .before .local .given .1,
+  ) (c .before .before .before .before .ask-lower .ensures .0 _),
+  (search needs, search needs),
+)
 
 same-length-7 : tie.Need-same-length-7
 same-length-7 c = search needs
@@ -105,51 +103,16 @@ same-length-7 c = search needs
 same-length-8 : tie.Need-same-length-8
 same-length-8 c = search needs
 
-returns-3 : tie.Need-returns-3
-unfolding demoteTo onSwap unreserve unreserveLocal onTook stuck ifte withTrees withLocals
-returns-3 c = (
-  rw (
-    c .before .before .before .before .before .before .before .before .before .before .before .before .before .before .before .before .before .before .local .given .1,
-    ← c .before .before .before .before .before .before .before .before .before .before .before .before .before .before .before .slot .ensures,
-    ← c .before .before .before .before .before .before .before .before .before .before .before .before .before .before .swap .ensures .0,
-    c .before .before .before .before .before .before .before .before .before .before .before .if1 .left,
-    ← c .before .before .before .before .before .before .ask-lower2 .ensures .0,
-  ),
-  (search needs, search needs),
-)
-
-same-length-9 : tie.Need-same-length-9
-same-length-9 c = search needs
-
-same-length-10 : tie.Need-same-length-10
-same-length-10 c = search needs
-
-same-length-11 : tie.Need-same-length-11
-same-length-11 c = search needs
-
 returns-4 : tie.Need-returns-4
-unfolding demoteTo onSwap unreserve unreserveLocal onTook stuck ifte withTrees withLocals
+unfolding demoteTo onSwap onReturned withTrees withLocals
 returns-4 c = (
   rw (
-    c .before .before .before .before .before .before .before .before .before .before .before .before .before .before .before .before .before .before .enum-told3 .given .1,
-    ← c .before .before .before .before .before .before .before .before .before .before .before .before .before .before .before .unreserve2 .ensures,
-    c .before .before .before .before .before .before .before .before .before .before .before .enum-told4 .given .1,
-    ← c .before .before .before .before .before .before .ask-lower3 .ensures .0,
-  ),
-  (search needs, search needs),
-)
-
-same-length-12 : tie.Need-same-length-12
-same-length-12 c = search needs
-
-returns-5 : tie.Need-returns-5
-unfolding demoteTo onSwap unreserve unreserveLocal onTook stuck ifte withTrees withLocals
-returns-5 c = (
-  rw (
-    c .before .before .before .before .before .before .before .enum-told3 .given .1,
-    ← c .before .before .before .before .unreserve2 .ensures,
-    c .enum-told5 .given .1,
-  ),
+    c .before .before .before .before .before .before .before .before .before .before .before .before .before .enum-told .given .1,
+    unreserve-returned _ _ _ _ _ _ _,
+    ← c .before .before .before .before .before .before .before .before .before .before .unreserve .ensures,
+    not-false (c .before .before .before .before .before .before .before .before .before .before .unreserve .result) (c .before .before .before .before .before .before .before .if2 .left),
+    ← c .before .before .before .before .before .before .before .before .before .before .before .before .before .enum-told .given .1,
+  ) (c .before .before .before .before .ask-lower2 .ensures .0 _),
   (search needs, search needs),
 )
 
@@ -160,30 +123,22 @@ demote-to-spec =
     enum-known-local
     slot-requires
     swap-requires
-    unreserve-requires
-    enum-told
-    ask-lower-requires
-    enum-told-2
-    ask-lower-requires-2
-    enum-told-3
-    unreserve-requires-2
-    enum-told-4
-    ask-lower-requires-3
-    enum-told-5
+    unreserve-local-requires
+    stuck-requires
     same-length
     same-length-2
-    same-length-3
     returns
+    ask-lower-requires
+    enum-told
+    unreserve-requires
+    stuck-requires-2
+    same-length-3
+    returns-2
+    ask-lower-requires-2
     same-length-4
     same-length-5
-    returns-2
     same-length-6
+    returns-3
     same-length-7
     same-length-8
-    returns-3
-    same-length-9
-    same-length-10
-    same-length-11
-    returns-4
-    same-length-12
-    returns-5)
+    returns-4)

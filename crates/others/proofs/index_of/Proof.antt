@@ -3,8 +3,6 @@ use Rattle.ways.specs.State.{indexOf}
 use borrow.Author.Needs.{needs}
 use Rattle.others.proofs.index_of.Statement.{statement}
 use Rattle.others.proofs.index_of.Tie as tie
-use Rattle.others.proofs.index_of.Reads as reads
-use Rattle.others.proofs.index_of.Lts as lts
 
 enum-known-local : tie.Need-enum-known-local
 enum-known-local c = search needs

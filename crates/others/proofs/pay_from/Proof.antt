@@ -1,20 +1,25 @@
 -- `others::pay_from` meets its contract. Assumes nothing.
 use Rattle.ways.specs.Locals.{payFrom}
-use Rattle.ways.specs.State.{onHeld, missed, withLocals}
+use Rattle.ways.specs.State.{onHeld, withLocals}
 use borrow.Author.Needs.{needs}
 use Rattle.others.proofs.pay_from.Statement.{statement}
 use Rattle.others.proofs.pay_from.Tie as tie
-use Rattle.others.proofs.pay_from.Reads as reads
-use Rattle.others.proofs.pay_from.Lts as lts
-use Rattle.bits.proofs.frames.Reads as frames-reads
-use Rattle.local.proofs.take.Reads as take-reads
-use Rattle.steal.proofs.ask_lower.Reads as ask-lower-reads
+
+enum-known-payer : tie.Need-enum-known-payer
+enum-known-payer c = search needs
 
 enum-told : tie.Need-enum-told
 enum-told c = search needs
 
-enum-known-payer : tie.Need-enum-known-payer
-enum-known-payer c = search needs
+missed-requires : tie.Need-missed-requires
+missed-requires c κs = search needs
+
+returns : tie.Need-returns
+unfolding payFrom onHeld withLocals
+returns c = (
+  rw (c .before .enum-told .given .1) (c .missed .ensures .0 _ _ _),
+  (search needs, search needs),
+)
 
 frames-requires : tie.Need-frames-requires
 frames-requires c κs = search needs
@@ -34,13 +39,14 @@ ask-lower-requires c κs = search needs
 enum-told-2 : tie.Need-enum-told-2
 enum-told-2 c = search needs
 
+missed-requires-2 : tie.Need-missed-requires-2
+missed-requires-2 c κs = search needs
+
 enum-told-3 : tie.Need-enum-told-3
 enum-told-3 c = search needs
 
-returns : tie.Need-returns
-unfolding payFrom onHeld missed withLocals
-returns c =
-    (rw (c .enum-told .given .1), (search needs, search needs))
+missed-requires-3 : tie.Need-missed-requires-3
+missed-requires-3 c κs = search needs
 
 same-length : tie.Need-same-length
 same-length c = search needs
@@ -52,15 +58,14 @@ same-length-3 : tie.Need-same-length-3
 same-length-3 c = search needs
 
 returns-2 : tie.Need-returns-2
-unfolding payFrom onHeld missed withLocals
+unfolding payFrom onHeld withLocals
 returns-2 c = (
   rw (
-    c .before .before .before .before .before .before .before .before .before .before .before .before .before .before .before .before .before .before .before .payer .given .1,
-    ← c .before .before .before .before .before .before .before .before .before .before .before .before .before .before .before .before .frames .ensures,
-    ← c .before .before .before .before .before .before .before .before .before .before .before .before .before .before .before .take .ensures,
-    c .before .before .before .before .before .before .before .before .before .before .before .row .given .1,
-    ← c .before .before .before .before .before .before .ask-lower .ensures .0,
-  ),
+    c .before .before .before .before .before .before .before .before .before .before .before .before .before .before .before .before .payer .given .1,
+    ← c .before .before .before .before .before .before .before .before .before .before .before .before .before .frames .ensures,
+    ← c .before .before .before .before .before .before .before .before .before .before .before .before .take .ensures,
+    c .before .before .before .before .before .before .before .before .row .given .1,
+  ) (c .before .before .before .before .ask-lower .ensures .0 _),
   (search needs, search needs),
 )
 
@@ -68,14 +73,14 @@ same-length-4 : tie.Need-same-length-4
 same-length-4 c = search needs
 
 returns-3 : tie.Need-returns-3
-unfolding payFrom onHeld missed withLocals
+unfolding payFrom onHeld withLocals
 returns-3 c = (
   rw (
-    c .before .before .before .before .before .before .before .before .payer .given .1,
-    ← c .before .before .before .before .before .frames .ensures,
-    ← c .before .before .before .before .take .ensures,
-    c .enum-told2 .given .1,
-  ),
+    c .before .before .before .before .before .before .before .before .before .payer .given .1,
+    ← c .before .before .before .before .before .before .frames .ensures,
+    ← c .before .before .before .before .before .take .ensures,
+    c .before .enum-told2 .given .1,
+  ) (c .missed2 .ensures .0 _ _ _),
   (search needs, search needs),
 )
 
@@ -83,14 +88,14 @@ same-length-5 : tie.Need-same-length-5
 same-length-5 c = search needs
 
 returns-4 : tie.Need-returns-4
-unfolding payFrom onHeld missed withLocals
+unfolding payFrom onHeld withLocals
 returns-4 c = (
   rw (
-    c .before .before .before .before .before .before .before .before .payer .given .1,
-    ← c .before .before .before .before .before .frames .ensures,
-    ← c .before .before .before .before .take .ensures,
-    c .enum-told3 .given .1,
-  ),
+    c .before .before .before .before .before .before .before .before .before .payer .given .1,
+    ← c .before .before .before .before .before .before .frames .ensures,
+    ← c .before .before .before .before .before .take .ensures,
+    c .before .enum-told3 .given .1,
+  ) (c .missed3 .ensures .0 _ _ _),
   (search needs, search needs),
 )
 
@@ -98,16 +103,19 @@ pub pay-from-spec : {M : Type 1} → statement M
 pay-from-spec =
     tie.close
     (tie.spec
-    enum-told
     enum-known-payer
+    enum-told
+    missed-requires
+    returns
     frames-requires
     cast-take
     take-requires
     enum-known-row
     ask-lower-requires
     enum-told-2
+    missed-requires-2
     enum-told-3
-    returns
+    missed-requires-3
     same-length
     same-length-2
     same-length-3

@@ -3,12 +3,6 @@ use Rattle.ways.specs.Locals.{stealLocal}
 use borrow.Author.Needs.{needs}
 use Rattle.others.proofs.steal_local.Statement.{statement}
 use Rattle.others.proofs.steal_local.Tie as tie
-use Rattle.others.proofs.steal_local.Reads as reads
-use Rattle.others.proofs.steal_local.Lts as lts
-use Rattle.bits.proofs.frames.Reads as frames-reads
-use Rattle.local.proofs.steal_any.Reads as steal-any-reads
-use Rattle.others.proofs.index_of.Reads as index-of-reads
-use Rattle.others.proofs.pay_from.Reads as pay-from-reads
 
 index-of-requires : tie.Need-index-of-requires
 index-of-requires c κs = search needs

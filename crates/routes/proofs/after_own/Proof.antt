@@ -1,33 +1,15 @@
 -- `routes::after_own` meets its contract. Assumes nothing.
-use Rattle.ways.specs.State.{orElse}
+use Rattle.ends.specs.Ends.{else-ends, else-goes}
+use mathlib.Core.Path.{sym, _∙_}
 use borrow.Author.Needs.{needs}
 use Rattle.routes.proofs.after_own.Statement.{statement}
 use Rattle.routes.proofs.after_own.Tie as tie
-use Rattle.routes.proofs.after_own.Reads as reads
-use Rattle.routes.proofs.after_own.Lts as lts
-use Rattle.others.proofs.last_routes.Reads as last-routes-reads
-use Rattle.steal.proofs.steal_global.Reads as steal-global-reads
 
 steal-global-requires : tie.Need-steal-global-requires
 steal-global-requires c κs = search needs
 
-enum-told : tie.Need-enum-told
-enum-told c = search needs
-
-enum-told-2 : tie.Need-enum-told-2
-enum-told-2 c = search needs
-
-last-routes-requires : tie.Need-last-routes-requires
-last-routes-requires c κs = search needs
-
-enum-told-3 : tie.Need-enum-told-3
-enum-told-3 c = search needs
-
-last-routes-requires-2 : tie.Need-last-routes-requires-2
-last-routes-requires-2 c κs = search needs
-
-enum-told-4 : tie.Need-enum-told-4
-enum-told-4 c = search needs
+ends-requires : tie.Need-ends-requires
+ends-requires c κs = search needs
 
 same-length : tie.Need-same-length
 same-length c = search needs
@@ -39,14 +21,16 @@ same-length-3 : tie.Need-same-length-3
 same-length-3 c = search needs
 
 returns : tie.Need-returns
-unfolding orElse
 returns c = (
   rw (
     ← c .before .before .before .before .before .before .before .before .steal-global .ensures .0,
-    c .enum-told .given .1,
+    else-ends _ _ _ (sym (c .before .ends .ensures) ∙ c .if1 .taken),
   ),
   (search needs, search needs),
 )
+
+last-routes-requires : tie.Need-last-routes-requires
+last-routes-requires c κs = search needs
 
 same-length-4 : tie.Need-same-length-4
 same-length-4 c = search needs
@@ -58,51 +42,11 @@ same-length-6 : tie.Need-same-length-6
 same-length-6 c = search needs
 
 returns-2 : tie.Need-returns-2
-unfolding orElse
 returns-2 c = (
   rw (
     ← c .before .before .before .before .before .before .before .before .before .before .before .before .before .before .before .before .before .before .steal-global .ensures .0,
-    c .before .before .before .before .before .before .before .before .before .before .enum-told2 .given .1,
+    else-goes _ _ _ (sym (c .before .before .before .before .before .before .before .before .before .before .before .ends .ensures) ∙ c .before .before .before .before .before .before .before .before .before .before .if1 .left),
     ← c .before .before .before .before .before .before .last-routes .ensures .0,
-  ),
-  (search needs, search needs),
-)
-
-same-length-7 : tie.Need-same-length-7
-same-length-7 c = search needs
-
-same-length-8 : tie.Need-same-length-8
-same-length-8 c = search needs
-
-same-length-9 : tie.Need-same-length-9
-same-length-9 c = search needs
-
-returns-3 : tie.Need-returns-3
-unfolding orElse
-returns-3 c = (
-  rw (
-    ← c .before .before .before .before .before .before .before .before .before .before .before .before .before .before .before .before .before .before .steal-global .ensures .0,
-    c .before .before .before .before .before .before .before .before .before .before .enum-told3 .given .1,
-    ← c .before .before .before .before .before .before .last-routes2 .ensures .0,
-  ),
-  (search needs, search needs),
-)
-
-same-length-10 : tie.Need-same-length-10
-same-length-10 c = search needs
-
-same-length-11 : tie.Need-same-length-11
-same-length-11 c = search needs
-
-same-length-12 : tie.Need-same-length-12
-same-length-12 c = search needs
-
-returns-4 : tie.Need-returns-4
-unfolding orElse
-returns-4 c = (
-  rw (
-    ← c .before .before .before .before .before .before .before .before .steal-global .ensures .0,
-    c .enum-told4 .given .1,
   ),
   (search needs, search needs),
 )
@@ -112,25 +56,13 @@ after-own-spec =
     tie.close
     (tie.spec
     steal-global-requires
-    enum-told
-    enum-told-2
-    last-routes-requires
-    enum-told-3
-    last-routes-requires-2
-    enum-told-4
+    ends-requires
     same-length
     same-length-2
     same-length-3
     returns
+    last-routes-requires
     same-length-4
     same-length-5
     same-length-6
-    returns-2
-    same-length-7
-    same-length-8
-    same-length-9
-    returns-3
-    same-length-10
-    same-length-11
-    same-length-12
-    returns-4)
+    returns-2)

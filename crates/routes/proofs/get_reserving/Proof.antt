@@ -5,10 +5,6 @@ use Rattle.ways.specs.Get.{getReserving, orFrom}
 use borrow.Author.Needs.{needs}
 use Rattle.routes.proofs.get_reserving.Statement.{statement}
 use Rattle.routes.proofs.get_reserving.Tie as tie
-use Rattle.routes.proofs.get_reserving.Reads as reads
-use Rattle.routes.proofs.get_reserving.Lts as lts
-use Rattle.search.proofs.search_and_reserve.Reads as search-and-reserve-reads
-use Rattle.take.proofs.get_local.Reads as get-local-reads
 
 get-local-requires : tie.Need-get-local-requires
 get-local-requires c κs = search needs

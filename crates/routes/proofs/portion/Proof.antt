@@ -6,8 +6,6 @@ use Rattle.routes.specs.Start.{start-fits}
 use borrow.Author.Needs.{needs}
 use Rattle.routes.proofs.portion.Statement.{statement}
 use Rattle.routes.proofs.portion.Tie as tie
-use Rattle.routes.proofs.portion.Reads as reads
-use Rattle.routes.proofs.portion.Lts as lts
 
 div-result : tie.Need-div-result
 div-result c = search needs

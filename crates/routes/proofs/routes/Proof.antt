@@ -3,10 +3,6 @@ use Rattle.ways.specs.Get.{routes}
 use borrow.Author.Needs.{needs}
 use Rattle.routes.proofs.routes.Statement.{statement}
 use Rattle.routes.proofs.routes.Tie as tie
-use Rattle.routes.proofs.routes.Reads as reads
-use Rattle.routes.proofs.routes.Lts as lts
-use Rattle.routes.proofs.get_any.Reads as get-any-reads
-use Rattle.routes.proofs.get_at.Reads as get-at-reads
 
 enum-told : tie.Need-enum-told
 enum-told c = search needs

@@ -6,14 +6,6 @@ use borrow.Author.Tests.{le-ltb, lt-ltb}
 use borrow.Author.Needs.{needs}
 use Rattle.routes.proofs.search_trees.Statement.{statement}
 use Rattle.routes.proofs.search_trees.Tie as tie
-use Rattle.routes.proofs.search_trees.Reads as reads
-use Rattle.routes.proofs.search_trees.Lts as lts
-use Rattle.routes.proofs.get_reserving.Reads as get-reserving-reads
-use Rattle.routes.proofs.start_tree.Reads as start-tree-reads
-use Rattle.search.proofs.count.Reads as count-reads
-use Rattle.search.proofs.search_and_steal.Reads as search-and-steal-reads
-use Rattle.words.proofs.locals_of.Reads as locals-of-reads
-use Rattle.words.proofs.slot.Reads as slot-reads
 
 enum-known-local : tie.Need-enum-known-local
 enum-known-local c = search needs

@@ -4,11 +4,6 @@ use borrow.Author.Tests.{eq-eqb, ne-eqb}
 use borrow.Author.Needs.{needs}
 use Rattle.routes.proofs.start_tree.Statement.{statement}
 use Rattle.routes.proofs.start_tree.Tie as tie
-use Rattle.routes.proofs.start_tree.Reads as reads
-use Rattle.routes.proofs.start_tree.Lts as lts
-use Rattle.routes.proofs.portion.Reads as portion-reads
-use Rattle.search.proofs.count.Reads as count-reads
-use Rattle.words.proofs.locals_of.Reads as locals-of-reads
 
 locals-of-requires : tie.Need-locals-of-requires
 locals-of-requires c κs = search needs

@@ -3,9 +3,6 @@ use Rattle.search.specs.Count.{count-some, count-most}
 use borrow.Author.Needs.{needs}
 use Rattle.search.proofs.count.Statement.{statement}
 use Rattle.search.proofs.count.Tie as tie
-use Rattle.search.proofs.count.Reads as reads
-use Rattle.search.proofs.count.Lts as lts
-use Rattle.words.proofs.tree_count.Reads as tree-count-reads
 
 tree-count-requires : tie.Need-tree-count-requires
 tree-count-requires c κs = search needs

@@ -4,8 +4,6 @@ use borrow.Author.Needs.{needs}
 use borrow.Author.Tests.{le-ltb, lt-ltb}
 use Rattle.search.proofs.near.Statement.{statement}
 use Rattle.search.proofs.near.Tie as tie
-use Rattle.search.proofs.near.Reads as reads
-use Rattle.search.proofs.near.Lts as lts
 
 returns : tie.Need-returns
 unfolding near

@@ -8,10 +8,6 @@ use Rattle.ways.specs.Search.{near}
 use Rattle.search.specs.Rounded.{Passed, passed-none, passed-more, shifted, round-at, round-none}
 use Rattle.search.proofs.rounded_start.Statement.{statement}
 use Rattle.search.proofs.rounded_start.Tie as tie
-use Rattle.search.proofs.rounded_start.Reads as reads
-use Rattle.search.proofs.rounded_start.Lts as lts
-use Rattle.best.proofs.size.Reads as size-reads
-use Rattle.search.proofs.near.Reads as near-reads
 
 abbrev Inv-loop : tie.InvT-loop
 Inv-loop n start least e₀ e = (e ≤ 8) × ((least ≡ 2 * near n) × Passed n e)

@@ -3,11 +3,6 @@ use Rattle.ways.specs.Search.{searchAndReserve}
 use borrow.Author.Needs.{needs}
 use Rattle.search.proofs.search_and_reserve.Statement.{statement}
 use Rattle.search.proofs.search_and_reserve.Tie as tie
-use Rattle.search.proofs.search_and_reserve.Reads as reads
-use Rattle.search.proofs.search_and_reserve.Lts as lts
-use Rattle.search.proofs.count.Reads as count-reads
-use Rattle.search.proofs.rounded_start.Reads as rounded-start-reads
-use Rattle.search.proofs.search_from.Reads as search-from-reads
 
 count-requires : tie.Need-count-requires
 count-requires c κs = search needs

@@ -3,10 +3,6 @@ use Rattle.ways.specs.Search.{searchAndSteal}
 use borrow.Author.Needs.{needs}
 use Rattle.search.proofs.search_and_steal.Statement.{statement}
 use Rattle.search.proofs.search_and_steal.Tie as tie
-use Rattle.search.proofs.search_and_steal.Reads as reads
-use Rattle.search.proofs.search_and_steal.Lts as lts
-use Rattle.search.proofs.count.Reads as count-reads
-use Rattle.walk.proofs.search_best.Reads as search-best-reads
 
 count-requires : tie.Need-count-requires
 count-requires c κs = search needs
@@ -30,7 +26,7 @@ returns c = (
     ← c .before .before .before .before .before .before .before .before .before .before .count .ensures .0,
     ← c .before .before .before .before .before .before .search-best .ensures .0,
   ),
-  search needs,
+  (search needs, search needs),
 )
 
 pub search-and-steal-spec : {M : Type 1} → statement M

@@ -3,10 +3,6 @@ use Rattle.ways.specs.Walk.{access}
 use borrow.Author.Needs.{needs}
 use Rattle.steal.proofs.access.Statement.{statement}
 use Rattle.steal.proofs.access.Tie as tie
-use Rattle.steal.proofs.access.Reads as reads
-use Rattle.steal.proofs.access.Lts as lts
-use Rattle.steal.proofs.reserve_or_steal.Reads as reserve-or-steal-reads
-use Rattle.steal.proofs.steal_global.Reads as steal-global-reads
 
 enum-told : tie.Need-enum-told
 enum-told c = search needs

@@ -1,15 +1,10 @@
 -- `steal::reserve_or_steal` meets its contract. Assumes nothing.
-use Rattle.ways.specs.State.{onTaken, missed, withTrees}
+use Rattle.steal.specs.Row.{row-tree}
+use Rattle.ways.specs.State.{onTaken, withTrees}
 use Rattle.ways.specs.Walk.{reserveOrSteal}
 use borrow.Author.Needs.{needs}
 use Rattle.steal.proofs.reserve_or_steal.Statement.{statement}
 use Rattle.steal.proofs.reserve_or_steal.Tie as tie
-use Rattle.steal.proofs.reserve_or_steal.Reads as reads
-use Rattle.steal.proofs.reserve_or_steal.Lts as lts
-use Rattle.bits.proofs.frames.Reads as frames-reads
-use Rattle.steal.proofs.ask_lower.Reads as ask-lower-reads
-use Rattle.steal.proofs.reserved.Reads as reserved-reads
-use Rattle.trees.proofs.reserve_or_steal.Reads as reserve-or-steal-reads
 
 frames-requires : tie.Need-frames-requires
 frames-requires c κs = search needs
@@ -23,11 +18,14 @@ reserve-or-steal-requires c κs = search needs
 enum-told : tie.Need-enum-told
 enum-told c = search needs
 
+missed-requires : tie.Need-missed-requires
+missed-requires c κs = search needs
+
 enum-known-e : tie.Need-enum-known-e
 enum-known-e c = search needs
 
-mul-ask-lower : tie.Need-mul-ask-lower
-mul-ask-lower c = search needs
+mul-row : tie.Need-mul-row
+mul-row c = search needs
 
 ask-lower-requires : tie.Need-ask-lower-requires
 ask-lower-requires c κs = search needs
@@ -42,13 +40,13 @@ same-length : tie.Need-same-length
 same-length c = search needs
 
 returns : tie.Need-returns
-unfolding reserveOrSteal onTaken missed withTrees
+unfolding reserveOrSteal onTaken withTrees
 returns c = (
   rw (
-    ← c .before .before .before .before .before .frames .ensures,
-    ← c .before .before .before .before .reserve-or-steal .ensures,
-    c .enum-told .given .1,
-  ),
+    ← c .before .before .before .before .before .before .frames .ensures,
+    ← c .before .before .before .before .before .reserve-or-steal .ensures,
+    c .before .enum-told .given .1,
+  ) (c .missed .ensures .0 _ _ _),
   (search needs, search needs),
 )
 
@@ -58,20 +56,19 @@ same-length-2 c = search needs
 same-length-3 : tie.Need-same-length-3
 same-length-3 c = search needs
 
-same-length-4 : tie.Need-same-length-4
-same-length-4 c = search needs
-
 returns-2 : tie.Need-returns-2
-unfolding reserveOrSteal onTaken missed withTrees
+unfolding reserveOrSteal onTaken withTrees
 returns-2 c = (
   rw (
-    ← c .before .before .before .before .before .before .before .before .before .before .before .before .before .before .before .before .frames .ensures,
-    ← c .before .before .before .before .before .before .before .before .before .before .before .before .before .before .before .reserve-or-steal .ensures,
-    c .before .before .before .before .before .before .before .before .before .before .before .e .given .1,
-    ← c .before .before .before .before .before .before .ask-lower .ensures .0,
-  ),
+    ← c .before .before .before .before .before .before .before .before .before .before .before .before .before .frames .ensures,
+    ← c .before .before .before .before .before .before .before .before .before .before .before .before .reserve-or-steal .ensures,
+    c .before .before .before .before .before .before .before .before .e .given .1,
+  ) (rw (row-tree (c .before .before .before .before .before .before .before .before .before .before .before .before .before .before .before .before .before .before .args .t)) at (c .before .before .before .before .ask-lower .ensures .0 (c .before .before .before .before .before .before .before .before .before .before .before .before .before .before .before .before .before .before .args .locals .now))),
   (search needs, search needs),
 )
+
+same-length-4 : tie.Need-same-length-4
+same-length-4 c = search needs
 
 same-length-5 : tie.Need-same-length-5
 same-length-5 c = search needs
@@ -79,11 +76,8 @@ same-length-5 c = search needs
 same-length-6 : tie.Need-same-length-6
 same-length-6 c = search needs
 
-same-length-7 : tie.Need-same-length-7
-same-length-7 c = search needs
-
 returns-3 : tie.Need-returns-3
-unfolding reserveOrSteal onTaken missed withTrees
+unfolding reserveOrSteal onTaken withTrees
 returns-3 c = (
   rw (
     ← c .before .before .before .before .before .before .before .before .before .before .before .before .before .before .before .before .frames .ensures,
@@ -102,8 +96,9 @@ reserve-or-steal-spec =
     cast-reserve-or-steal
     reserve-or-steal-requires
     enum-told
+    missed-requires
     enum-known-e
-    mul-ask-lower
+    mul-row
     ask-lower-requires
     enum-known-e-2
     reserved-requires
@@ -111,9 +106,8 @@ reserve-or-steal-spec =
     returns
     same-length-2
     same-length-3
-    same-length-4
     returns-2
+    same-length-4
     same-length-5
     same-length-6
-    same-length-7
     returns-3)

@@ -1,14 +1,9 @@
 -- `take::own_local` meets its contract. Assumes nothing.
 use Rattle.ways.specs.Fits.{given-small}
 use Rattle.ways.specs.Locals.{ownLocal}
-use Rattle.ways.specs.State.{missed}
 use borrow.Author.Needs.{needs}
 use Rattle.take.proofs.own_local.Statement.{statement}
 use Rattle.take.proofs.own_local.Tie as tie
-use Rattle.take.proofs.own_local.Reads as reads
-use Rattle.take.proofs.own_local.Lts as lts
-use Rattle.take.proofs.get_local.Reads as get-local-reads
-use Rattle.words.proofs.slot.Reads as slot-reads
 
 enum-known-local : tie.Need-enum-known-local
 enum-known-local c = search needs
@@ -22,6 +17,9 @@ get-local-requires c κs = search needs
 enum-told : tie.Need-enum-told
 enum-told c = search needs
 
+missed-requires : tie.Need-missed-requires
+missed-requires c κs = search needs
+
 same-length : tie.Need-same-length
 same-length c = search needs
 
@@ -32,7 +30,7 @@ same-length-3 : tie.Need-same-length-3
 same-length-3 c = search needs
 
 returns : tie.Need-returns
-unfolding ownLocal missed
+unfolding ownLocal
 returns c = (
   rw (
     c .before .before .before .before .before .before .before .before .before .before .before .before .local .given .1,
@@ -43,9 +41,11 @@ returns c = (
 )
 
 returns-2 : tie.Need-returns-2
-unfolding ownLocal missed
-returns-2 c =
-    (rw (c .enum-told .given .1), (search needs, search needs))
+unfolding ownLocal
+returns-2 c = (
+  rw (c .before .enum-told .given .1) (c .missed .ensures .0 _ _ _),
+  (search needs, search needs),
+)
 
 pub own-local-spec : {M : Type 1} → statement M
 own-local-spec =
@@ -55,6 +55,7 @@ own-local-spec =
     slot-requires
     get-local-requires
     enum-told
+    missed-requires
     same-length
     same-length-2
     same-length-3

@@ -5,16 +5,12 @@ use mathlib.Core.List.{List}
 use Prim.Native.Nat.{ℕ, _≤_, _-_, _+_}
 use lib.ListN.{length}
 use Rattle.rules.specs.Words.{config}
-use Rattle.ways.specs.State.{st, missed}
+use Rattle.ways.specs.State.{st}
 use Rattle.ways.specs.Walk.{tryList}
 use Rattle.best.specs.List.{listOf, listFrom, from-first, from-none, from-more, from-end}
-use Rattle.best.specs.Ends.{else-ends, else-goes}
+use Rattle.ends.specs.Ends.{else-ends, else-goes}
 use Rattle.walk.proofs.try_list.Statement.{statement}
 use Rattle.walk.proofs.try_list.Tie as tie
-use Rattle.walk.proofs.try_list.Reads as reads
-use Rattle.walk.proofs.try_list.Lts as lts
-use Rattle.best.proofs.ends.Reads as ends-reads
-use Rattle.steal.proofs.access.Reads as access-reads
 
 -- the trees tried, the counts, the lengths; the list from here is the list from the start
 record Inv (m looks tries : ℕ) (best trees₀ locals₀ bits₀ trees locals bits : List ℕ) (seen asked k : ℕ) (same : Type 0) : Type 0 where
@@ -56,6 +52,9 @@ mul-x c = search needs
 array-read-x : tie.Need-array-read-x Inv-loop μ-loop
 array-read-x c = search needs
 
+missed-requires : tie.Need-missed-requires Inv-loop μ-loop
+missed-requires c κs = search needs
+
 same-length : tie.Need-same-length Inv-loop μ-loop
 same-length c = search needs
 
@@ -66,11 +65,11 @@ same-length-3 : tie.Need-same-length-3 Inv-loop μ-loop
 same-length-3 c = search needs
 
 returns : tie.Need-returns Inv-loop μ-loop
-unfolding tryList missed
+unfolding tryList
 returns c =
-    let l = c .before .before .loop in
-    let t = c .before .loop-test .taken in
-    (rw (← l .inv .same-list, from-none _ _ _ t (l .inv .places) (c .if1 .taken)), search needs)
+    let l = c .before .before .before .loop in
+    let t = c .before .before .loop-test .taken in
+    (rw (← l .inv .same-list, from-none _ _ _ t (l .inv .places) (c .before .if1 .taken)) (c .missed .ensures .0 _ _ _), search needs)
 
 access-requires : tie.Need-access-requires Inv-loop μ-loop
 access-requires c κs = search needs
@@ -129,6 +128,9 @@ loop-again c =
       ) at (l .inv .same-list);
     }
 
+missed-requires-2 : tie.Need-missed-requires-2 Inv-loop μ-loop
+missed-requires-2 c κs = search needs
+
 same-length-7 : tie.Need-same-length-7 Inv-loop μ-loop
 same-length-7 c = search needs
 
@@ -139,10 +141,10 @@ same-length-9 : tie.Need-same-length-9 Inv-loop μ-loop
 same-length-9 c = search needs
 
 returns-3 : tie.Need-returns-3 Inv-loop μ-loop
-unfolding tryList missed
+unfolding tryList
 returns-3 c =
-    let l = c .before .loop in
-    (rw (← l .inv .same-list, from-end _ _ _ (c .loop-test .left)), search needs)
+    let l = c .before .before .loop in
+    (rw (← l .inv .same-list, from-end _ _ _ (c .before .loop-test .left)) (c .missed2 .ensures .0 _ _ _), search needs)
 
 pub try-list-spec : {M : Type 1} → statement M
 try-list-spec =
@@ -153,6 +155,7 @@ try-list-spec =
     loop-holds
     mul-x
     array-read-x
+    missed-requires
     same-length
     same-length-2
     same-length-3
@@ -166,6 +169,7 @@ try-list-spec =
     add-k
     loop-less
     loop-again
+    missed-requires-2
     same-length-7
     same-length-8
     same-length-9

@@ -1,10 +1,8 @@
--- `best::ends` meets its contract: one answer for each end. Assumes nothing.
-use Rattle.best.specs.Ends.{ends}
+-- `ends::ends` meets its contract: one answer for each end. Assumes nothing.
+use Rattle.ends.specs.Ends.{ends}
 use borrow.Author.Needs.{needs}
-use Rattle.best.proofs.ends.Statement.{statement}
-use Rattle.best.proofs.ends.Tie as tie
-use Rattle.best.proofs.ends.Reads as reads
-use Rattle.best.proofs.ends.Lts as lts
+use Rattle.ends.proofs.ends.Statement.{statement}
+use Rattle.ends.proofs.ends.Tie as tie
 
 enum-told : tie.Need-enum-told
 enum-told c = search needs

@@ -1,0 +1,2 @@
+-- which ends of a route are the last
+pub mod Ends

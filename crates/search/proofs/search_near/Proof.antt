@@ -1,0 +1,44 @@
+-- `search::search_near` meets its contract. Assumes nothing.
+use borrow.Author.Needs.{needs}
+use Rattle.search.proofs.search_near.Statement.{statement}
+use Rattle.search.proofs.search_near.Tie as tie
+
+count-requires : tie.Need-count-requires
+count-requires c κs = search needs
+
+near-requires : tie.Need-near-requires
+near-requires c κs = search needs
+
+search-best-requires : tie.Need-search-best-requires
+search-best-requires c κs = search needs
+
+same-length : tie.Need-same-length
+same-length c = search needs
+
+same-length-2 : tie.Need-same-length-2
+same-length-2 c = search needs
+
+same-length-3 : tie.Need-same-length-3
+same-length-3 c = search needs
+
+returns : tie.Need-returns
+returns c = (
+  rw (
+    ← c .before .before .before .before .before .before .before .before .before .before .before .count .ensures .0,
+    ← c .before .before .before .before .before .before .before .before .before .before .near .ensures .0,
+    ← c .before .before .before .before .before .before .search-best .ensures .0,
+  ),
+  (search needs, search needs),
+)
+
+pub search-near-spec : {M : Type 1} → statement M
+search-near-spec =
+    tie.close
+    (tie.spec
+    count-requires
+    near-requires
+    search-best-requires
+    same-length
+    same-length-2
+    same-length-3
+    returns)

@@ -1,0 +1,2 @@
+-- the tree of a tree's first row
+pub mod Row

@@ -1,0 +1,86 @@
+-- `steps::ask_lower` meets its contract. Assumes nothing.
+use Rattle.ways.specs.State.{askLower, onFound, putEntry, withTrees, withTry}
+use borrow.Author.Needs.{needs}
+use Rattle.steps.proofs.ask_lower.Statement.{statement}
+use Rattle.steps.proofs.ask_lower.Tie as tie
+
+lower-get-requires : tie.Need-lower-get-requires
+lower-get-requires c κs = search needs
+
+enum-known-f : tie.Need-enum-known-f
+enum-known-f c = search needs
+
+add-done : tie.Need-add-done
+add-done c = search needs
+
+done-requires : tie.Need-done-requires
+done-requires c κs = search needs
+
+enum-told : tie.Need-enum-told
+enum-told c = search needs
+
+frames-requires : tie.Need-frames-requires
+frames-requires c κs = search needs
+
+cast-put : tie.Need-cast-put
+cast-put c = search needs
+
+put-requires : tie.Need-put-requires
+put-requires c κs = search needs
+
+add-missed : tie.Need-add-missed
+add-missed c = search needs
+
+missed-requires : tie.Need-missed-requires
+missed-requires c κs = search needs
+
+same-length : tie.Need-same-length
+same-length c = search needs
+
+returns : tie.Need-returns
+unfolding askLower onFound putEntry withTrees withTry
+returns c = (
+  λ l. rw (
+    ← c .before .before .before .before .before .before .lower-get .ensures,
+    c .before .before .f .given .1,
+  ) (c .done .ensures .0 _ _ _),
+  (search needs, search needs),
+)
+
+same-length-2 : tie.Need-same-length-2
+same-length-2 c = search needs
+
+same-length-3 : tie.Need-same-length-3
+same-length-3 c = search needs
+
+returns-2 : tie.Need-returns-2
+unfolding askLower onFound putEntry withTrees withTry
+returns-2 c = (
+  λ l. rw (
+    ← c .before .before .before .before .before .before .before .before .before .before .lower-get .ensures,
+    c .before .before .before .before .before .before .enum-told .given .1,
+    ← c .before .before .before .before .frames .ensures,
+    ← c .before .before .before .put .ensures,
+  ) (c .missed .ensures .0 _ _ _),
+  (search needs, search needs),
+)
+
+pub ask-lower-spec : {M : Type 1} → statement M
+ask-lower-spec =
+    tie.close
+    (tie.spec
+    lower-get-requires
+    enum-known-f
+    add-done
+    done-requires
+    enum-told
+    frames-requires
+    cast-put
+    put-requires
+    add-missed
+    missed-requires
+    same-length
+    returns
+    same-length-2
+    same-length-3
+    returns-2)

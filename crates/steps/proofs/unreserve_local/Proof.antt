@@ -1,0 +1,26 @@
+-- `steps::unreserve_local` meets its contract. Assumes nothing.
+use Rattle.rules.specs.Base.{ifte}
+use Rattle.steps.specs.Returned.{returnedLocal}
+use borrow.Author.Needs.{needs}
+use Rattle.steps.proofs.unreserve_local.Statement.{statement}
+use Rattle.steps.proofs.unreserve_local.Tie as tie
+
+unreserve-requires : tie.Need-unreserve-requires
+unreserve-requires c κs = search needs
+
+same-length : tie.Need-same-length
+same-length c = search needs
+
+returns : tie.Need-returns
+unfolding returnedLocal ifte
+returns c = rw (
+  c .before .before .before .before .before .if1 .taken,
+  ← c .before .before .unreserve .ensures,
+)
+
+returns-2 : tie.Need-returns-2
+unfolding returnedLocal ifte
+returns-2 c = rw (c .if1 .left)
+
+pub unreserve-local-spec : {M : Type 1} → statement M
+unreserve-local-spec = tie.close (tie.spec unreserve-requires same-length returns returns-2)

@@ -1,0 +1,2 @@
+-- the return of a reservation
+pub mod Returned
