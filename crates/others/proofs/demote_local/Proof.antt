@@ -1,4 +1,5 @@
 -- `others::demote_local` meets its contract. Assumes nothing.
+use native.Mathlib.Omega.{arith}
 use Rattle.ways.specs.Locals.{demoteLocal}
 use borrow.Author.Needs.{needs}
 use Rattle.others.proofs.demote_local.Statement.{statement}
@@ -20,13 +21,13 @@ move-from-requires : tie.Need-move-from-requires
 move-from-requires c κs = search needs
 
 same-length : tie.Need-same-length
-same-length c = search needs
+same-length c = omega (arith, c .before .before .before .before .before .before .move-from .kept)
 
 same-length-2 : tie.Need-same-length-2
-same-length-2 c = search needs
+same-length-2 c = omega (arith, c .before .before .before .before .before .before .move-from .kept)
 
 same-length-3 : tie.Need-same-length-3
-same-length-3 c = search needs
+same-length-3 c = omega (arith, c .before .before .before .before .before .before .move-from .kept)
 
 returns : tie.Need-returns
 unfolding demoteLocal
@@ -37,7 +38,7 @@ returns c = (
     ← c .before .before .before .before .before .before .before .before .before .before .demote-any .ensures,
     ← c .before .before .before .before .before .before .move-from .ensures .0,
   ),
-  (search needs, search needs),
+  omega (arith, c .before .before .before .before .before .before .move-from .ensures .1),
 )
 
 pub demote-local-spec : {M : Type 1} → statement M

@@ -1,4 +1,5 @@
 -- `others::demote_to` meets its contract. Assumes nothing.
+use native.Mathlib.Omega.{arith}
 use Rattle.steps.specs.Returned.{local-returned, onReturned, unreserve-returned}
 use Rattle.ways.specs.Fits.{given-small}
 use Rattle.ways.specs.Locals.{demoteTo}
@@ -24,10 +25,10 @@ stuck-requires : tie.Need-stuck-requires
 stuck-requires c κs = search needs
 
 same-length : tie.Need-same-length
-same-length c = search needs
+same-length c = omega (arith, c .before .before .before .before .unreserve-local .kept, c .before .before .before .before .before .before .before .before .swap .kept)
 
 same-length-2 : tie.Need-same-length-2
-same-length-2 c = search needs
+same-length-2 c = omega (arith, c .before .before .before .before .unreserve-local .kept, c .before .before .before .before .before .before .before .before .swap .kept)
 
 returns : tie.Need-returns
 unfolding demoteTo onSwap onReturned withTrees withLocals
@@ -40,7 +41,7 @@ returns c = (
     ← c .before .before .before .before .unreserve-local .ensures,
     not-true (c .before .before .before .before .unreserve-local .result) (c .before .if1 .taken),
   ) (c .stuck .ensures .0 _ _ _),
-  (search needs, search needs),
+  omega (arith, c .stuck .ensures .1),
 )
 
 ask-lower-requires : tie.Need-ask-lower-requires
@@ -56,7 +57,7 @@ stuck-requires-2 : tie.Need-stuck-requires-2
 stuck-requires-2 c κs = search needs
 
 same-length-3 : tie.Need-same-length-3
-same-length-3 c = search needs
+same-length-3 c = omega (arith, c .before .before .before .before .unreserve .kept)
 
 returns-2 : tie.Need-returns-2
 unfolding demoteTo onSwap onReturned withTrees withLocals
@@ -67,20 +68,20 @@ returns-2 c = (
     ← c .before .before .before .before .unreserve .ensures,
     not-true (c .before .before .before .before .unreserve .result) (c .before .if2 .taken),
   ) (c .stuck2 .ensures .0 _ _ _),
-  (search needs, search needs),
+  omega (arith, c .stuck2 .ensures .1),
 )
 
 ask-lower-requires-2 : tie.Need-ask-lower-requires-2
 ask-lower-requires-2 c κs = search needs
 
 same-length-4 : tie.Need-same-length-4
-same-length-4 c = search needs
+same-length-4 c = omega (arith, c .before .before .before .before .ask-lower .kept, c .before .before .before .before .before .before .before .before .before .before .unreserve-local .kept, c .before .before .before .before .before .before .before .before .before .before .before .before .before .before .swap .kept)
 
 same-length-5 : tie.Need-same-length-5
-same-length-5 c = search needs
+same-length-5 c = omega (arith, c .before .before .before .before .ask-lower .kept, c .before .before .before .before .before .before .before .before .before .before .unreserve-local .kept, c .before .before .before .before .before .before .before .before .before .before .before .before .before .before .swap .kept)
 
 same-length-6 : tie.Need-same-length-6
-same-length-6 c = search needs
+same-length-6 c = omega (arith, c .before .before .before .before .ask-lower .kept, c .before .before .before .before .before .before .before .before .before .before .unreserve-local .kept, c .before .before .before .before .before .before .before .before .before .before .before .before .before .before .swap .kept)
 
 returns-3 : tie.Need-returns-3
 unfolding demoteTo onSwap onReturned withTrees withLocals
@@ -94,14 +95,14 @@ returns-3 c = (
     not-false (c .before .before .before .before .before .before .before .before .before .before .unreserve-local .result) (c .before .before .before .before .before .before .before .if1 .left),
     ← c .before .before .before .before .before .before .before .before .before .before .before .before .before .before .before .before .before .before .local .given .1,
   ) (c .before .before .before .before .ask-lower .ensures .0 _),
-  (search needs, search needs),
+  omega (arith, c .before .before .before .before .ask-lower .ensures .1),
 )
 
 same-length-7 : tie.Need-same-length-7
-same-length-7 c = search needs
+same-length-7 c = omega (arith, c .before .before .before .before .ask-lower2 .kept, c .before .before .before .before .before .before .before .before .before .before .unreserve .kept)
 
 same-length-8 : tie.Need-same-length-8
-same-length-8 c = search needs
+same-length-8 c = omega (arith, c .before .before .before .before .ask-lower2 .kept, c .before .before .before .before .before .before .before .before .before .before .unreserve .kept)
 
 returns-4 : tie.Need-returns-4
 unfolding demoteTo onSwap onReturned withTrees withLocals
@@ -113,7 +114,7 @@ returns-4 c = (
     not-false (c .before .before .before .before .before .before .before .before .before .before .unreserve .result) (c .before .before .before .before .before .before .before .if2 .left),
     ← c .before .before .before .before .before .before .before .before .before .before .before .before .before .enum-told .given .1,
   ) (c .before .before .before .before .ask-lower2 .ensures .0 _),
-  (search needs, search needs),
+  omega (arith, c .before .before .before .before .ask-lower2 .ensures .1),
 )
 
 pub demote-to-spec : {M : Type 1} → statement M

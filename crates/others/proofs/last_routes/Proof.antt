@@ -1,4 +1,5 @@
 -- `others::last_routes` meets its contract. Assumes nothing.
+use native.Mathlib.Omega.{arith}
 use Rattle.ends.specs.Ends.{else-ends, else-goes}
 use Rattle.ways.specs.Get.{lastRoutes}
 use mathlib.Core.Path.{sym, _∙_}
@@ -13,13 +14,13 @@ ends-requires : tie.Need-ends-requires
 ends-requires c κs = search needs
 
 same-length : tie.Need-same-length
-same-length c = search needs
+same-length c = omega (arith, c .before .before .before .before .before .before .before .before .steal-local .kept)
 
 same-length-2 : tie.Need-same-length-2
-same-length-2 c = search needs
+same-length-2 c = omega (arith, c .before .before .before .before .before .before .before .before .steal-local .kept)
 
 same-length-3 : tie.Need-same-length-3
-same-length-3 c = search needs
+same-length-3 c = omega (arith, c .before .before .before .before .before .before .before .before .steal-local .kept)
 
 returns : tie.Need-returns
 unfolding lastRoutes
@@ -28,20 +29,20 @@ returns c = (
     ← c .before .before .before .before .before .before .before .before .steal-local .ensures .0,
     else-ends _ _ _ (sym (c .before .ends .ensures) ∙ c .if1 .taken),
   ),
-  (search needs, search needs),
+  omega (arith, c .before .before .before .before .before .before .before .before .steal-local .ensures .1),
 )
 
 demote-local-requires : tie.Need-demote-local-requires
 demote-local-requires c κs = search needs
 
 same-length-4 : tie.Need-same-length-4
-same-length-4 c = search needs
+same-length-4 c = omega (arith, c .before .before .before .before .before .before .demote-local .kept, c .before .before .before .before .before .before .before .before .before .before .before .before .before .before .before .before .before .before .steal-local .kept)
 
 same-length-5 : tie.Need-same-length-5
-same-length-5 c = search needs
+same-length-5 c = omega (arith, c .before .before .before .before .before .before .demote-local .kept, c .before .before .before .before .before .before .before .before .before .before .before .before .before .before .before .before .before .before .steal-local .kept)
 
 same-length-6 : tie.Need-same-length-6
-same-length-6 c = search needs
+same-length-6 c = omega (arith, c .before .before .before .before .before .before .demote-local .kept, c .before .before .before .before .before .before .before .before .before .before .before .before .before .before .before .before .before .before .steal-local .kept)
 
 returns-2 : tie.Need-returns-2
 unfolding lastRoutes
@@ -51,7 +52,7 @@ returns-2 c = (
     else-goes _ _ _ (sym (c .before .before .before .before .before .before .before .before .before .before .before .ends .ensures) ∙ c .before .before .before .before .before .before .before .before .before .before .if1 .left),
     ← c .before .before .before .before .before .before .demote-local .ensures .0,
   ),
-  (search needs, search needs),
+  omega (arith, c .before .before .before .before .before .before .demote-local .ensures .1, c .before .before .before .before .before .before .before .before .before .before .before .before .before .before .before .before .before .before .steal-local .ensures .1),
 )
 
 pub last-routes-spec : {M : Type 1} → statement M

@@ -1,4 +1,5 @@
 -- `others::pay_from` meets its contract. Assumes nothing.
+use native.Mathlib.Omega.{arith}
 use Rattle.ways.specs.Locals.{payFrom}
 use Rattle.ways.specs.State.{onHeld, withLocals}
 use borrow.Author.Needs.{needs}
@@ -18,7 +19,7 @@ returns : tie.Need-returns
 unfolding payFrom onHeld withLocals
 returns c = (
   rw (c .before .enum-told .given .1) (c .missed .ensures .0 _ _ _),
-  (search needs, search needs),
+  omega (arith, c .missed .ensures .1),
 )
 
 frames-requires : tie.Need-frames-requires
@@ -49,13 +50,13 @@ missed-requires-3 : tie.Need-missed-requires-3
 missed-requires-3 c κs = search needs
 
 same-length : tie.Need-same-length
-same-length c = search needs
+same-length c = omega (arith, c .before .before .before .before .ask-lower .kept, c .before .before .before .before .before .before .before .before .before .before .before .before .take .kept)
 
 same-length-2 : tie.Need-same-length-2
-same-length-2 c = search needs
+same-length-2 c = omega (arith, c .before .before .before .before .ask-lower .kept, c .before .before .before .before .before .before .before .before .before .before .before .before .take .kept)
 
 same-length-3 : tie.Need-same-length-3
-same-length-3 c = search needs
+same-length-3 c = omega (arith, c .before .before .before .before .ask-lower .kept, c .before .before .before .before .before .before .before .before .before .before .before .before .take .kept)
 
 returns-2 : tie.Need-returns-2
 unfolding payFrom onHeld withLocals
@@ -66,11 +67,11 @@ returns-2 c = (
     ← c .before .before .before .before .before .before .before .before .before .before .before .before .take .ensures,
     c .before .before .before .before .before .before .before .before .row .given .1,
   ) (c .before .before .before .before .ask-lower .ensures .0 _),
-  (search needs, search needs),
+  omega (arith, c .before .before .before .before .ask-lower .ensures .1),
 )
 
 same-length-4 : tie.Need-same-length-4
-same-length-4 c = search needs
+same-length-4 c = omega (arith, c .before .before .before .before .before .take .kept)
 
 returns-3 : tie.Need-returns-3
 unfolding payFrom onHeld withLocals
@@ -81,11 +82,11 @@ returns-3 c = (
     ← c .before .before .before .before .before .take .ensures,
     c .before .enum-told2 .given .1,
   ) (c .missed2 .ensures .0 _ _ _),
-  (search needs, search needs),
+  omega (arith, c .missed2 .ensures .1),
 )
 
 same-length-5 : tie.Need-same-length-5
-same-length-5 c = search needs
+same-length-5 c = omega (arith, c .before .before .before .before .before .take .kept)
 
 returns-4 : tie.Need-returns-4
 unfolding payFrom onHeld withLocals
@@ -96,7 +97,7 @@ returns-4 c = (
     ← c .before .before .before .before .before .take .ensures,
     c .before .enum-told3 .given .1,
   ) (c .missed3 .ensures .0 _ _ _),
-  (search needs, search needs),
+  omega (arith, c .missed3 .ensures .1),
 )
 
 pub pay-from-spec : {M : Type 1} → statement M

@@ -1,4 +1,5 @@
 -- `others::steal_local` meets its contract. Assumes nothing.
+use native.Mathlib.Omega.{arith}
 use Rattle.ways.specs.Locals.{stealLocal}
 use borrow.Author.Needs.{needs}
 use Rattle.others.proofs.steal_local.Statement.{statement}
@@ -20,13 +21,13 @@ pay-from-requires : tie.Need-pay-from-requires
 pay-from-requires c κs = search needs
 
 same-length : tie.Need-same-length
-same-length c = search needs
+same-length c = omega (arith, c .before .before .before .before .before .before .pay-from .kept)
 
 same-length-2 : tie.Need-same-length-2
-same-length-2 c = search needs
+same-length-2 c = omega (arith, c .before .before .before .before .before .before .pay-from .kept)
 
 same-length-3 : tie.Need-same-length-3
-same-length-3 c = search needs
+same-length-3 c = omega (arith, c .before .before .before .before .before .before .pay-from .kept)
 
 returns : tie.Need-returns
 unfolding stealLocal
@@ -37,7 +38,7 @@ returns c = (
     ← c .before .before .before .before .before .before .before .before .before .before .steal-any .ensures,
     ← c .before .before .before .before .before .before .pay-from .ensures .0,
   ),
-  (search needs, search needs),
+  omega (arith, c .before .before .before .before .before .before .pay-from .ensures .1),
 )
 
 pub steal-local-spec : {M : Type 1} → statement M

@@ -31,13 +31,13 @@ enum-told-3 : tie.Need-enum-told-3
 enum-told-3 c = search needs
 
 same-length : tie.Need-same-length
-same-length c = search needs
+same-length c = omega (arith, c .before .before .before .before .before .before .before .before .get-local .kept)
 
 same-length-2 : tie.Need-same-length-2
-same-length-2 c = search needs
+same-length-2 c = omega (arith, c .before .before .before .before .before .before .before .before .get-local .kept)
 
 same-length-3 : tie.Need-same-length-3
-same-length-3 c = search needs
+same-length-3 c = omega (arith, c .before .before .before .before .before .before .before .before .get-local .kept)
 
 returns : tie.Need-returns
 unfolding getReserving orFrom
@@ -46,17 +46,17 @@ returns c = (
     ← c .before .before .before .before .before .before .before .before .get-local .ensures .0,
     c .enum-told .given .1,
   ),
-  (search needs, search needs),
+  omega (arith, c .before .before .before .before .before .before .before .before .get-local .ensures .1),
 )
 
 same-length-4 : tie.Need-same-length-4
-same-length-4 c = search needs
+same-length-4 c = omega (arith, c .before .before .before .before .before .before .search-and-reserve .kept, c .before .before .before .before .before .before .before .before .before .before .before .before .before .before .before .before .before .before .get-local .kept)
 
 same-length-5 : tie.Need-same-length-5
-same-length-5 c = search needs
+same-length-5 c = omega (arith, c .before .before .before .before .before .before .search-and-reserve .kept, c .before .before .before .before .before .before .before .before .before .before .before .before .before .before .before .before .before .before .get-local .kept)
 
 same-length-6 : tie.Need-same-length-6
-same-length-6 c = search needs
+same-length-6 c = omega (arith, c .before .before .before .before .before .before .search-and-reserve .kept, c .before .before .before .before .before .before .before .before .before .before .before .before .before .before .before .before .before .before .get-local .kept)
 
 returns-2 : tie.Need-returns-2
 unfolding getReserving orFrom
@@ -66,17 +66,17 @@ returns-2 c = (
     c .before .before .before .before .before .before .before .before .before .before .enum-told2 .given .1,
     ← c .before .before .before .before .before .before .search-and-reserve .ensures .0,
   ),
-  (search needs, search needs),
+  omega (arith, c .before .before .before .before .before .before .search-and-reserve .ensures .1, c .before .before .before .before .before .before .before .before .before .before .before .before .before .before .before .before .before .before .get-local .ensures .1),
 )
 
 same-length-7 : tie.Need-same-length-7
-same-length-7 c = search needs
+same-length-7 c = omega (arith, c .before .before .before .before .before .before .search-and-reserve2 .kept, c .before .before .before .before .before .before .before .before .before .before .before .before .before .before .before .before .before .before .before .get-local .kept)
 
 same-length-8 : tie.Need-same-length-8
-same-length-8 c = search needs
+same-length-8 c = omega (arith, c .before .before .before .before .before .before .search-and-reserve2 .kept, c .before .before .before .before .before .before .before .before .before .before .before .before .before .before .before .before .before .before .before .get-local .kept)
 
 same-length-9 : tie.Need-same-length-9
-same-length-9 c = search needs
+same-length-9 c = omega (arith, c .before .before .before .before .before .before .search-and-reserve2 .kept, c .before .before .before .before .before .before .before .before .before .before .before .before .before .before .before .before .before .before .before .get-local .kept)
 
 returns-3 : tie.Need-returns-3
 unfolding getReserving orFrom
@@ -86,17 +86,17 @@ returns-3 c = (
     c .before .before .before .before .before .before .before .before .before .before .before .got .given .1,
     ← c .before .before .before .before .before .before .search-and-reserve2 .ensures .0,
   ),
-  (search needs, search needs),
+  omega (arith, c .before .before .before .before .before .before .search-and-reserve2 .ensures .1, c .before .before .before .before .before .before .before .before .before .before .before .before .before .before .before .before .before .before .before .get-local .ensures .1),
 )
 
 same-length-10 : tie.Need-same-length-10
-same-length-10 c = search needs
+same-length-10 c = omega (arith, c .before .before .before .before .before .before .before .before .get-local .kept)
 
 same-length-11 : tie.Need-same-length-11
-same-length-11 c = search needs
+same-length-11 c = omega (arith, c .before .before .before .before .before .before .before .before .get-local .kept)
 
 same-length-12 : tie.Need-same-length-12
-same-length-12 c = search needs
+same-length-12 c = omega (arith, c .before .before .before .before .before .before .before .before .get-local .kept)
 
 returns-4 : tie.Need-returns-4
 unfolding getReserving orFrom
@@ -105,7 +105,7 @@ returns-4 c = (
     ← c .before .before .before .before .before .before .before .before .get-local .ensures .0,
     c .enum-told3 .given .1,
   ),
-  (search needs, search needs),
+  omega (arith, c .before .before .before .before .before .before .before .before .get-local .ensures .1),
 )
 
 pub get-reserving-spec : {M : Type 1} → statement M

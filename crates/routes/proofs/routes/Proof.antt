@@ -1,4 +1,5 @@
 -- `routes::routes` meets its contract. Assumes nothing.
+use native.Mathlib.Omega.{arith}
 use Rattle.ways.specs.Get.{routes}
 use borrow.Author.Needs.{needs}
 use Rattle.routes.proofs.routes.Statement.{statement}
@@ -17,13 +18,13 @@ get-at-requires : tie.Need-get-at-requires
 get-at-requires c κs = search needs
 
 same-length : tie.Need-same-length
-same-length c = search needs
+same-length c = omega (arith, c .before .before .before .before .before .before .get-any .kept)
 
 same-length-2 : tie.Need-same-length-2
-same-length-2 c = search needs
+same-length-2 c = omega (arith, c .before .before .before .before .before .before .get-any .kept)
 
 same-length-3 : tie.Need-same-length-3
-same-length-3 c = search needs
+same-length-3 c = omega (arith, c .before .before .before .before .before .before .get-any .kept)
 
 returns : tie.Need-returns
 unfolding routes
@@ -34,13 +35,13 @@ returns c =
     )
 
 same-length-4 : tie.Need-same-length-4
-same-length-4 c = search needs
+same-length-4 c = omega (arith, c .before .before .before .before .before .before .get-at .kept)
 
 same-length-5 : tie.Need-same-length-5
-same-length-5 c = search needs
+same-length-5 c = omega (arith, c .before .before .before .before .before .before .get-at .kept)
 
 same-length-6 : tie.Need-same-length-6
-same-length-6 c = search needs
+same-length-6 c = omega (arith, c .before .before .before .before .before .before .get-at .kept)
 
 returns-2 : tie.Need-returns-2
 unfolding routes

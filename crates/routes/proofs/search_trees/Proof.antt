@@ -1,4 +1,5 @@
 -- `routes::search_trees` meets its contract. Assumes nothing.
+use native.Mathlib.Omega.{arith}
 use Rattle.ways.specs.Fits.{given-small}
 use Rattle.rules.specs.Base.{ifte}
 use Rattle.ways.specs.Get.{searchTrees, startTree}
@@ -26,13 +27,13 @@ get-reserving-requires : tie.Need-get-reserving-requires
 get-reserving-requires c κs = search needs
 
 same-length : tie.Need-same-length
-same-length c = search needs
+same-length c = omega (arith, c .before .before .before .before .before .before .get-reserving .kept)
 
 same-length-2 : tie.Need-same-length-2
-same-length-2 c = search needs
+same-length-2 c = omega (arith, c .before .before .before .before .before .before .get-reserving .kept)
 
 same-length-3 : tie.Need-same-length-3
-same-length-3 c = search needs
+same-length-3 c = omega (arith, c .before .before .before .before .before .before .get-reserving .kept)
 
 returns : tie.Need-returns
 unfolding searchTrees startTree ifte
@@ -46,7 +47,7 @@ returns c = (
     ← c .before .before .before .before .before .before .before .before .before .before .slot .ensures,
     ← c .before .before .before .before .before .before .get-reserving .ensures .0,
   ),
-  (search needs, search needs),
+  omega (arith, c .before .before .before .before .before .before .get-reserving .ensures .1),
 )
 
 search-and-steal-requires : tie.Need-search-and-steal-requires
@@ -59,13 +60,13 @@ search-and-steal-requires-2 : tie.Need-search-and-steal-requires-2
 search-and-steal-requires-2 c κs = search needs
 
 same-length-4 : tie.Need-same-length-4
-same-length-4 c = search needs
+same-length-4 c = omega (arith, c .before .before .before .before .before .before .search-and-steal .kept)
 
 same-length-5 : tie.Need-same-length-5
-same-length-5 c = search needs
+same-length-5 c = omega (arith, c .before .before .before .before .before .before .search-and-steal .kept)
 
 same-length-6 : tie.Need-same-length-6
-same-length-6 c = search needs
+same-length-6 c = omega (arith, c .before .before .before .before .before .before .search-and-steal .kept)
 
 returns-2 : tie.Need-returns-2
 unfolding searchTrees startTree ifte
@@ -78,17 +79,17 @@ returns-2 c = (
     le-ltb _ _ (c .before .before .before .before .before .before .before .before .before .before .if1 .left),
     ← c .before .before .before .before .before .before .search-and-steal .ensures .0,
   ),
-  (search needs, search needs),
+  omega (arith, c .before .before .before .before .before .before .search-and-steal .ensures .1),
 )
 
 same-length-7 : tie.Need-same-length-7
-same-length-7 c = search needs
+same-length-7 c = omega (arith, c .before .before .before .before .before .before .search-and-steal2 .kept)
 
 same-length-8 : tie.Need-same-length-8
-same-length-8 c = search needs
+same-length-8 c = omega (arith, c .before .before .before .before .before .before .search-and-steal2 .kept)
 
 same-length-9 : tie.Need-same-length-9
-same-length-9 c = search needs
+same-length-9 c = omega (arith, c .before .before .before .before .before .before .search-and-steal2 .kept)
 
 returns-3 : tie.Need-returns-3
 unfolding searchTrees startTree ifte
@@ -97,7 +98,7 @@ returns-3 c = (
     c .before .before .before .before .before .before .before .before .before .before .enum-told .given .1,
     ← c .before .before .before .before .before .before .search-and-steal2 .ensures .0,
   ),
-  (search needs, search needs),
+  omega (arith, c .before .before .before .before .before .before .search-and-steal2 .ensures .1),
 )
 
 pub search-trees-spec : {M : Type 1} → statement M
