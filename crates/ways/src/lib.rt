@@ -22,14 +22,6 @@ pub enum Walk {
     Stealing,
 }
 
-// How a step of a walk ends: the list of the best (a rating with its fullness, times 2^32, plus a tree each; 0 past the last), and the counts.
-pub struct Seen {
-    pub got: Got,
-    pub best: [u64; 8],
-    pub looks: usize,
-    pub tries: usize,
-}
-
 // The refusals, in document 01's order.
 pub enum Refusal {
     Broken,
