@@ -1,1 +1,2 @@
+-- the standing rules with frames or reservations in hand
 pub mod Hand

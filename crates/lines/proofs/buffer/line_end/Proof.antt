@@ -1,3 +1,4 @@
+-- `lines::buffer::line_end` meets its contract. Assumes nothing.
 use borrow.Author.Needs.{needs}
 use Prim.Native.Nat.{_-_}
 use lib.ListN.{length}
