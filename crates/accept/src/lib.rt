@@ -5,7 +5,7 @@ ghost use Prim.Native.Nat.{_*_, _+_, _<_};
 ghost use Rattle.rules.specs.Base.{allBelow};
 ghost use Rattle.rules.specs.Words.{config, configured};
 ghost use Rattle.rules.specs.Policy.{pairOf, kindAt, pairFormed, accepted};
-ghost use Rattle.policy_laws.specs.Rows.{placeFits, demoteKept, demotesKept, cellAccepted, rowEmpty, rowAccepted};
+ghost use Rattle.policy_laws.specs.Rows.{placeFits, pairCovered, covers, leadsBack, demoteCovers, cellAccepted, rowEmpty, rowAccepted};
 
 // A byte as a number.
 fn wide(x: u8) -> usize
@@ -15,7 +15,7 @@ fn wide(x: u8) -> usize
 }
 
 // The class has a place.
-fn is_configured(places: &[u8; 8], k: usize) -> bool
+pub fn is_configured(places: &[u8; 8], k: usize) -> bool
     requires { ⌜ k < 8 ⌝ }
     ensures { λ r. ⌜ r ≡ configured (now (places .entry)) k ⌝ }
 {
@@ -62,53 +62,72 @@ fn formed(w: u32) -> bool
     w < 4
 }
 
-// If (k, o) is Demote then (k, e) is good.
-fn demote_kept(h: Header, table: &[u32; 64], o: usize, e: usize, k: usize) -> bool
-    requires { ⌜ (o < 8) × ((e < 8) × (k < 8)) ⌝ }
-    ensures { λ r. ⌜ r ≡ demoteKept (config h (now (table .entry))) o e k ⌝ }
+// If (e, f) is good then (o, f) is good.
+fn pair_covered(h: Header, table: &[u32; 64], o: usize, e: usize, f: usize) -> bool
+    requires { ⌜ (o < 8) × ((e < 8) × (f < 8)) ⌝ }
+    ensures { λ r. ⌜ r ≡ pairCovered (config h (now (table .entry))) o e f ⌝ }
 {
-    if kind_at(h, table, k, o) == 2 {
-        return 2 <= kind_at(h, table, k, e);
+    if 2 <= kind_at(h, table, e, f) {
+        return 2 <= kind_at(h, table, o, f);
     }
     true
 }
 
-// The third rule at the good pair (o, e).
-fn demotes_kept(h: Header, table: &[u32; 64], o: usize, e: usize) -> bool
+// Every class that e is good with, o is good with.
+fn covers(h: Header, table: &[u32; 64], o: usize, e: usize) -> bool
     requires { ⌜ (o < 8) × (e < 8) ⌝ }
-    ensures { λ r. ⌜ r ≡ demotesKept (config h (now (table .entry))) o e ⌝ }
+    ensures { λ r. ⌜ r ≡ covers (config h (now (table .entry))) o e ⌝ }
 {
-    let mut k: usize = 0;
-    while k < 8 {
-        if !demote_kept(h, table, o, e, k) {
+    let mut f: usize = 0;
+    while f < 8 {
+        if !pair_covered(h, table, o, e, f) {
             return false;
         }
-        k += 1;
+        f += 1;
     }
     true
 }
 
-// The pair of a configured class o and a class e: its form, and the second and the third rule if it is good.
+// The second rule at (o, e): if it is good and (e, default) is not Invalid then (o, default) is good.
+fn leads_back(h: Header, table: &[u32; 64], o: usize, e: usize) -> bool
+    requires { ⌜ (h .default < 8) × ((o < 8) × (e < 8)) ⌝ }
+    ensures { λ r. ⌜ r ≡ leadsBack (config h (now (table .entry))) o e ⌝ }
+{
+    if 2 <= kind_at(h, table, o, e) {
+        if 0 < kind_at(h, table, e, h.default) {
+            return 2 <= kind_at(h, table, o, h.default);
+        }
+        return true;
+    }
+    true
+}
+
+// The third rule at (o, e): if it is Demote then o covers e.
+fn demote_covers(h: Header, table: &[u32; 64], o: usize, e: usize) -> bool
+    requires { ⌜ (o < 8) × (e < 8) ⌝ }
+    ensures { λ r. ⌜ r ≡ demoteCovers (config h (now (table .entry))) o e ⌝ }
+{
+    if kind_at(h, table, o, e) == 2 {
+        return covers(h, table, o, e);
+    }
+    true
+}
+
+// The pair of a configured class o and a class e: its form, and the second and the third rule; zero if e is unconfigured.
 fn cell_accepted(h: Header, places: &[u8; 8], table: &[u32; 64], o: usize, e: usize) -> bool
     requires { ⌜ (now places ≡ h .places) × ((h .default < 8) × ((o < 8) × (e < 8))) ⌝ }
     ensures { λ r. ⌜ r ≡ cellAccepted (config h (now (table .entry))) o e ⌝ }
 {
-    if formed(pair_at(h, table, o, e)) {
-        if is_configured(places, e) {
-            if 2 <= kind_at(h, table, o, e) {
-                if 0 < kind_at(h, table, e, h.default) {
-                    if 2 <= kind_at(h, table, o, h.default) {
-                        return demotes_kept(h, table, o, e);
-                    }
-                    return false;
-                }
-                return demotes_kept(h, table, o, e);
+    if is_configured(places, e) {
+        if formed(pair_at(h, table, o, e)) {
+            if leads_back(h, table, o, e) {
+                return demote_covers(h, table, o, e);
             }
-            return true;
+            return false;
         }
-        return kind_at(h, table, o, e) == 0;
+        return false;
     }
-    false
+    pair_at(h, table, o, e) == 0
 }
 
 // The eight pairs of a configured class o.
@@ -126,19 +145,18 @@ fn cells_accepted(h: Header, places: &[u8; 8], table: &[u32; 64], o: usize) -> b
     true
 }
 
-// The eight pairs of an unconfigured class o are zero.
+// The eight pairs of an unconfigured class o are zero: so is what has a bit of any of them.
 fn row_empty(h: Header, table: &[u32; 64], o: usize) -> bool
     requires { ⌜ o < 8 ⌝ }
     ensures { λ r. ⌜ r ≡ rowEmpty (config h (now (table .entry))) o ⌝ }
 {
+    let mut any: u32 = 0;
     let mut e: usize = 0;
     while e < 8 {
-        if pair_at(h, table, o, e) != 0 {
-            return false;
-        }
+        any = any | pair_at(h, table, o, e);
         e += 1;
     }
-    true
+    any == 0
 }
 
 // The eight pairs of a requested class o.

@@ -4,7 +4,6 @@ use mathlib.Core.Bool.{Bool, true, false, not}
 use mathlib.Core.List.{List}
 use Prim.Native.Nat.{ℕ, _+_, _*_, _/_, _%_, _^_, _<_}
 use native.Mathlib.Nat.{zero-div}
-use native.Mathlib.Numerals.{add-one}
 use native.Mathlib.Omega.{arith}
 use lib.Dec.{eqb}
 use lib.Pow.{pow-pos}
@@ -15,7 +14,7 @@ use Rattle.rules.specs.Words.{localAt}
 use Rattle.rules.specs.Lower.{bitAt, bit, held, heldIn, mark}
 use Rattle.rules.specs.declared.Local.{Local}
 use Rattle.ways.specs.Standing.{treeOn, apart, apartBefore}
-use Rattle.policy_laws.specs.All.{all-make, all-none, all-more, all-same, both-false}
+use Rattle.policy_laws.specs.All.{both-unit, both-false, all-none, all-more, all-next, all-make, all-same}
 use Rattle.lower_laws.specs.Cases.{by-side}
 use Rattle.lower_laws.specs.Sum.{sum-zero}
 use Rattle.lower_laws.specs.Block.{Block}
@@ -51,15 +50,6 @@ marks-none z ls = record { len = refl; unmarked = λ t l. ap (λ x. eqb x 0) (cl
 
     clear : (t : ℕ) → t < 1024 → heldIn ms 0 t ≡ 0
     clear t l = sum-zero (bit ms) (t * 2 ^ 0) (2 ^ 0) (λ i a b. ap (λ w. bitAt w (i % 64)) (getD-replicate {A = ℕ} 16 (i / 64) 0 0 (omega arith)) ∙ no-bit (i % 64))
-
--- one number more
-all-next : (n : ℕ) (f : ℕ → Bool) → allBelow (n + 1) f ≡ both (allBelow n f) (f n)
-unfolding allBelow
-all-next n f = rw (add-one n)
-
-both-unit : (a b : Bool) → b ≡ true → both a b ≡ a
-both-unit true b e = e
-both-unit false b e = refl
 
 module _ (z : ℕ) (ls : List ℕ) (j : ℕ) where
   -- an absent local is apart from all, and marks nothing

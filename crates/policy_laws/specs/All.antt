@@ -6,6 +6,9 @@ use Prim.Native.Nat.{ℕ, zero, suc, _+_, _<_, _≤_}
 use native.Mathlib.Nat.{le-of-suc-le-suc, not-suc-le-zero, eq-or-lt-of-le, lt-suc-self}
 use native.Mathlib.Numerals.{add-one}
 use native.Mathlib.Omega.{arith}
+use lib.Bits.{bitOr, or-zero-l, or-add-and, and-le-l, and-le-r}
+use lib.Dec.{eqb}
+use borrow.Author.Tests.{eq-eqb, eqb-true}
 use Rattle.rules.specs.Base.{pick, both, allBelow}
 use Rattle.rules.specs.Policy.{implies}
 
@@ -38,10 +41,25 @@ both-right false b h = true-false h refl
 pub both-true : (a b : Bool) → a ≡ true → b ≡ true → both a b ≡ true
 both-true a b h g = simp (h, g)
 
+-- the second passes: the first decides
+pub both-unit : (a b : Bool) → b ≡ true → both a b ≡ a
+both-unit true b h = h
+both-unit false b h = refl
+
 -- the second fails
 pub both-false : (a b : Bool) → b ≡ false → both a b ≡ false
 both-false true b h = h
 both-false false b h = refl
+
+-- two words have no bit between them exactly if neither has one
+pub or-empty : (a b : ℕ) → both (eqb a 0) (eqb b 0) ≡ eqb (bitOr a b) 0
+or-empty a b = same-test (both (eqb a 0) (eqb b 0)) (eqb (bitOr a b) 0)
+    (λ h. (let p : a ≡ 0 = eqb-true _ _ (both-left (eqb a 0) (eqb b 0) h) in let q : b ≡ 0 = eqb-true _ _ (both-right (eqb a 0) (eqb b 0) h) in
+    eq-eqb (bitOr a b) 0 (rw (p, q) (or-zero-l 0))))
+    (λ h. (let z : bitOr a b ≡ 0 = eqb-true _ _ h in
+    let p : a ≡ 0 = omega (arith, z, or-add-and a b, and-le-r a b) in
+    let q : b ≡ 0 = omega (arith, z, or-add-and a b, and-le-l a b) in
+    both-true _ _ (eq-eqb _ _ p) (eq-eqb _ _ q)))
 
 -- what follows from a test that passes
 pub implies-at : (a b : Bool) → implies a b ≡ true → a ≡ true → b ≡ true
@@ -72,6 +90,11 @@ pub all-at : (n : ℕ) (f : ℕ → Bool) → allBelow n f ≡ true → (k : ℕ
 unfolding allBelow
 all-at zero f h k l = absurd (not-suc-le-zero l)
 all-at (suc n) f h k l = ⊎-elim (λ e. ap f e ∙ both-right (allBelow n f) (f n) h) (λ m. all-at n f (both-left (allBelow n f) (f n) h) k m) (eq-or-lt-of-le (le-of-suc-le-suc l))
+
+-- one number more, as the two tests
+pub all-next : (n : ℕ) (f : ℕ → Bool) → allBelow (n + 1) f ≡ both (allBelow n f) (f n)
+unfolding allBelow
+all-next n f = rw (add-one n)
 
 -- one failing test fails all
 pub all-fails : (n : ℕ) (f : ℕ → Bool) (k : ℕ) → k < n → f k ≡ false → allBelow n f ≡ false

@@ -1,4 +1,4 @@
--- The test of the table row by row, which the code makes: a pair's three rules only where the pair is good. It is the same test. Assumes nothing.
+-- The test of the table row by row, which the code makes: the form and the rules only at pairs of configured classes, zeros elsewhere. It is the same test. Assumes nothing.
 use mathlib.Core.Path.{_≡_, refl}
 use mathlib.Core.Bool.{Bool, true, false}
 use mathlib.Core.List.{List}
@@ -14,25 +14,32 @@ use Rattle.policy_laws.specs.All.{by, same-test, both-left, both-right, 
 use Rattle.policy_laws.specs.Kinds.{good-true, good-fact, configured-true, configured-fact, unconfigured-fact}
 use Rattle.policy_laws.specs.Accepted.{PairForm, AcceptedTable, kind-alone, formed-says, says-formed, pair-configured, table-says, says-table}
 
--- if (k, o) is Demote then (k, e) is good
-abbrev pub demoteKept : Config → ℕ → ℕ → ℕ → Bool
-demoteKept c o e k = implies (eqb (kindAt c k o) 2) (good c k e)
-
--- the same at every class k
-unfoldable pub demotesKept : Config → ℕ → ℕ → Bool
-demotesKept c o e = allBelow 8 (demoteKept c o e)
-
--- the pair of a configured class o and a class e: its form, and the rules if it is good
-unfoldable pub cellAccepted : Config → ℕ → ℕ → Bool
-cellAccepted c o e =
-    both (pairFormed (c .order) (pairOf c o e))
-    (pick (configured (c .places) e)
-    (implies (good c o e) (both (implies (ltb 0 (kindAt c e (c .default))) (good c o (c .default))) (demotesKept c o e)))
-    (eqb (kindAt c o e) 0))
-
 -- the pair is Invalid, with zeros
 abbrev pub pairEmpty : Config → ℕ → ℕ → Bool
 pairEmpty c o e = eqb (pairOf c o e) 0
+
+-- if (e, f) is good then (o, f) is good
+abbrev pub pairCovered : Config → ℕ → ℕ → ℕ → Bool
+pairCovered c o e f = implies (good c e f) (good c o f)
+
+-- every class that e is good with, o is good with
+unfoldable pub covers : Config → ℕ → ℕ → Bool
+covers c o e = allBelow 8 (pairCovered c o e)
+
+-- the second rule at a pair
+unfoldable pub leadsBack : Config → ℕ → ℕ → Bool
+leadsBack c o e = implies (good c o e) (implies (ltb 0 (kindAt c e (c .default))) (good c o (c .default)))
+
+-- the third rule at a pair
+unfoldable pub demoteCovers : Config → ℕ → ℕ → Bool
+demoteCovers c o e = implies (eqb (kindAt c o e) 2) (covers c o e)
+
+-- the pair of a configured class o and a class e: its form and the two rules, or zeros
+unfoldable pub cellAccepted : Config → ℕ → ℕ → Bool
+cellAccepted c o e =
+    pick (configured (c .places) e)
+    (both (pairFormed (c .order) (pairOf c o e)) (both (leadsBack c o e) (demoteCovers c o e)))
+    (pairEmpty c o e)
 
 -- the eight pairs of an unconfigured class
 unfoldable pub rowEmpty : Config → ℕ → Bool
@@ -80,58 +87,73 @@ module _ (c : Config) where
     cell-at : configured (c .places) o ≡ true → (e : ℕ) → e < 8 → cellAccepted c o e ≡ true
     cell-at a e le = all-at 8 (cellAccepted c o) (both-right (good c o o) _ (row-on a)) e le
 
-    cell-formed : configured (c .places) o ≡ true → (e : ℕ) → e < 8 → PairForm (c .order) (pairOf c o e)
-    unfolding cellAccepted
-    cell-formed a e le = formed-says (c .order) (pairOf c o e) (both-left (pairFormed (c .order) (pairOf c o e)) _ (cell-at a e le))
+    -- a pair of two configured classes
+    module _ (a : configured (c .places) o ≡ true) (e : ℕ) (le : e < 8) (b : configured (c .places) e ≡ true) where
+      cell-on : both (pairFormed (c .order) (pairOf c o e)) (both (leadsBack c o e) (demoteCovers c o e)) ≡ true
+      unfolding cellAccepted
+      cell-on = rw b at (cell-at a e le)
 
-    cell-off : configured (c .places) o ≡ true → (e : ℕ) → e < 8 → configured (c .places) e ≡ false → kindAt c o e ≡ 0
-    unfolding cellAccepted
-    cell-off a e le b = eqb-true _ _ (rw b at (both-right (pairFormed (c .order) (pairOf c o e)) _ (cell-at a e le)))
+      cell-formed : PairForm (c .order) (pairOf c o e)
+      cell-formed = formed-says (c .order) (pairOf c o e) (both-left (pairFormed (c .order) (pairOf c o e)) _ cell-on)
 
-    cell-on : configured (c .places) o ≡ true → (e : ℕ) → e < 8 → configured (c .places) e ≡ true → Good c o e
-        → both (implies (ltb 0 (kindAt c e (c .default))) (good c o (c .default))) (demotesKept c o e) ≡ true
-    unfolding cellAccepted
-    cell-on a e le b g = rw (b, good-true c o e g) at (both-right (pairFormed (c .order) (pairOf c o e)) _ (cell-at a e le))
+      -- the second rule
+      cell-back : Good c o e → 0 < kindAt c e (c .default) → Good c o (c .default)
+      unfolding leadsBack
+      cell-back g n = good-fact c o (c .default)
+          (implies-at (ltb 0 (kindAt c e (c .default))) _
+          (implies-at (good c o e) _ (both-left (leadsBack c o e) (demoteCovers c o e) (both-right (pairFormed (c .order) (pairOf c o e)) _ cell-on)) (good-true c o e g)) (lt-ltb _ _ n))
 
-    -- the third rule at k
-    demotes-at : (e k : ℕ) → k < 8 → demotesKept c o e ≡ true → kindAt c k o ≡ 2 → Good c k e
-    unfolding demotesKept
-    demotes-at e k lk t n = good-fact c k e (implies-at (eqb (kindAt c k o) 2) _ (all-at 8 (demoteKept c o e) t k lk) (eq-eqb _ _ n))
+      -- the third rule
+      cell-covers : kindAt c o e ≡ 2 → (f : ℕ) → f < 8 → Good c e f → Good c o f
+      unfolding demoteCovers covers
+      cell-covers n f lf g = good-fact c o f (implies-at (good c e f) _ (all-at 8 (pairCovered c o e)
+          (implies-at (eqb (kindAt c o e) 2) _ (both-right (leadsBack c o e) (demoteCovers c o e) (both-right (pairFormed (c .order) (pairOf c o e)) _ cell-on)) (eq-eqb _ _ n))
+          f lf) (good-true c e f g))
+
+    -- a pair with an unconfigured class e
+    cell-off : configured (c .places) o ≡ true → (e : ℕ) → e < 8 → configured (c .places) e ≡ false → pairOf c o e ≡ 0
+    unfolding cellAccepted
+    cell-off a e le b = eqb-true _ _ (rw b at (cell-at a e le))
 
   -- the rows' test passes: so 01 accepts the table
   pub rows-say : allBelow 8 (rowAccepted c) ≡ true → AcceptedTable c
   rows-say h = record {
-    formed = λ o e lo le. by (configured (c .places) o) (λ a. cell-formed h o lo a e le) (λ a. zero-formed (c .order) (pairOf c o e) (row-off h o lo a e le));
+    formed = λ o e lo le. by (configured (c .places) o)
+        (λ a. by (configured (c .places) e) (λ b. cell-formed h o lo a e le b) (λ b. zero-formed (c .order) (pairOf c o e) (cell-off h o lo a e le b)))
+        (λ a. zero-formed (c .order) (pairOf c o e) (row-off h o lo a e le));
     invalid = λ o e lo le n. by (configured (c .places) o)
-        (λ a. by (configured (c .places) e) (λ b. absurd (n (configured-fact c o lo a, configured-fact c e le b))) (λ b. cell-off h o lo a e le b))
+        (λ a. by (configured (c .places) e) (λ b. absurd (n (configured-fact c o lo a, configured-fact c e le b))) (λ b. zero-kind o e (cell-off h o lo a e le b)))
         (λ a. zero-kind o e (row-off h o lo a e le));
     rules = record {
       own = λ k l. good-fact c k k (both-left (good c k k) _ (row-on h k (l .0) (configured-true c k l)));
-      back = λ o e l m g n. good-fact c o (c .default) (implies-at (ltb 0 (kindAt c e (c .default))) _
-          (both-left _ (demotesKept c o e) (cell-on h o (l .0) (configured-true c o l) e (m .0) (configured-true c e m) g)) (lt-ltb _ _ n));
-      down = λ o e k l m p g n. demotes-at h o (l .0) e k (p .0)
-          (both-right (implies (ltb 0 (kindAt c e (c .default))) (good c o (c .default))) _ (cell-on h o (l .0) (configured-true c o l) e (m .0) (configured-true c e m) g)) n;
+      back = λ o e l m g n. cell-back h o (l .0) (configured-true c o l) e (m .0) (configured-true c e m) g n;
+      down = λ o e k l m p g n. cell-covers h k (p .0) (configured-true c k p) o (l .0) (configured-true c o l) n e (m .0) g;
     };
   }
 
   -- 01 accepts the table: so the rows' test passes
   module _ (t : AcceptedTable c) where
-    say-demotes : (o e : ℕ) → Configured c o → Configured c e → Good c o e → demotesKept c o e ≡ true
-    unfolding demotesKept
-    say-demotes o e l m g = all-make 8 (demoteKept c o e) (λ k lk. implies-make (eqb (kindAt c k o) 2) _ (λ q.
-        (let n : kindAt c k o ≡ 2 = eqb-true _ _ q in
-        good-true c k e (t .rules .down o e k l m (pair-configured c t k o lk (l .0) (omega arith) .0) g n))))
+    -- the third rule at a pair
+    say-covers : (o e : ℕ) → Configured c o → Configured c e → demoteCovers c o e ≡ true
+    unfolding demoteCovers covers
+    say-covers o e l m = implies-make (eqb (kindAt c o e) 2) _ (λ q. all-make 8 (pairCovered c o e) (λ f lf. implies-make (good c e f) _ (λ r.
+        (let g : Good c e f = good-fact c e f r in
+        good-true c o f (t .rules .down e f o m (pair-configured c t e f (m .0) lf (omega arith) .1) l g (eqb-true _ _ q))))))
+
+    -- the second
+    say-back : (o e : ℕ) → Configured c o → Configured c e → leadsBack c o e ≡ true
+    unfolding leadsBack
+    say-back o e l m = implies-make (good c o e) _ (λ q. implies-make (ltb 0 (kindAt c e (c .default))) _ (λ n.
+        good-true c o (c .default) (t .rules .back o e l m (good-fact c o e q) (ltb-true _ _ n))))
 
     -- at a pair of a configured class
     say-cell : (o e : ℕ) → Configured c o → e < 8 → cellAccepted c o e ≡ true
     unfolding cellAccepted
-    say-cell o e l le = both-true (pairFormed (c .order) (pairOf c o e)) _ (says-formed (c .order) (pairOf c o e) (t .formed o e (l .0) le))
-        (by (configured (c .places) e)
-        (λ b. rw b (implies-make (good c o e) _ (λ q. (let m : Configured c e = configured-fact c e le b in let g : Good c o e = good-fact c o e q in
-        both-true (implies (ltb 0 (kindAt c e (c .default))) (good c o (c .default))) _
-        (implies-make (ltb 0 (kindAt c e (c .default))) _ (λ n. good-true c o (c .default) (t .rules .back o e l m g (ltb-true _ _ n))))
-        (say-demotes o e l m g)))))
-        (λ b. rw b (eq-eqb _ _ (t .invalid o e (l .0) le (λ y. unconfigured-fact c e b (y .1))))))
+    say-cell o e l le = by (configured (c .places) e)
+        (λ b. (let m : Configured c e = configured-fact c e le b in
+        rw b (both-true (pairFormed (c .order) (pairOf c o e)) _ (says-formed (c .order) (pairOf c o e) (t .formed o e (l .0) le))
+        (both-true (leadsBack c o e) (demoteCovers c o e) (say-back o e l m) (say-covers o e l m)))))
+        (λ b. rw b (eq-eqb _ _ (kind-zero o e (t .formed o e (l .0) le) (t .invalid o e (l .0) le (λ y. unconfigured-fact c e b (y .1))))))
 
     -- at a row
     say-row : (o : ℕ) → o < 8 → rowAccepted c o ≡ true

@@ -1,9 +1,9 @@
--- `accept::demote_kept` meets its contract. Assumes nothing.
+-- `accept::pair_covered` meets its contract. Assumes nothing.
 use Rattle.rules.specs.Policy.{good}
-use borrow.Author.Tests.{eq-eqb, ne-eqb}
+use borrow.Author.Tests.{le-leb, lt-leb}
 use borrow.Author.Needs.{needs}
-use Rattle.accept.proofs.demote_kept.Statement.{statement}
-use Rattle.accept.proofs.demote_kept.Tie as tie
+use Rattle.accept.proofs.pair_covered.Statement.{statement}
+use Rattle.accept.proofs.pair_covered.Tie as tie
 
 kind-at-requires : tie.Need-kind-at-requires
 kind-at-requires c κs = search needs
@@ -16,7 +16,7 @@ unfolding good
 returns c =
     rw (
       ← c .before .before .kind-at .ensures,
-      eq-eqb _ _ (c .before .if1 .taken),
+      le-leb _ _ (c .before .if1 .taken),
       ← c .kind-at2 .ensures,
     )
 
@@ -25,8 +25,8 @@ unfolding good
 returns-2 c =
     rw (
       ← c .before .kind-at .ensures,
-      ne-eqb _ _ (c .if1 .left),
+      lt-leb _ _ (c .if1 .left),
     )
 
-pub demote-kept-spec : {M : Type 1} → statement M
-demote-kept-spec = tie.close (tie.spec kind-at-requires kind-at-requires-2 returns returns-2)
+pub pair-covered-spec : {M : Type 1} → statement M
+pair-covered-spec = tie.close (tie.spec kind-at-requires kind-at-requires-2 returns returns-2)
