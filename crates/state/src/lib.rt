@@ -31,13 +31,20 @@ pub fn lengths_exact(
 }
 
 // Entry free at most 2,048, class configured; with no reservation entry free is the number of clear bits.
-fn entry_stands(h: Header, table: &[u32; 64], trees: &[u32], bits: &[u64], t: usize) -> bool
-    requires { ⌜ t * 32 + 32 ≤ length (now bits) ⌝ }
+fn entry_stands(
+    h: Header,
+    places: &[u8; 8],
+    table: &[u32; 64],
+    trees: &[u32],
+    bits: &[u64],
+    t: usize,
+) -> bool
+    requires { ⌜ (now places ≡ h .places) × (t * 32 + 32 ≤ length (now bits)) ⌝ }
     ensures { λ r. ⌜ r ≡ entryStands (config h (now (table .entry))) (now (trees .entry)) (now (bits .entry)) t ⌝ }
 {
     let e = trees::load(trees, t);
     if e.free <= 2048 {
-        if words::is_configured(h, e.class) {
+        if accept::is_configured(places, e.class) {
             if e.reserved {
                 return true;
             }
@@ -53,9 +60,10 @@ fn entries_stand(h: Header, table: &[u32; 64], trees: &[u32], bits: &[u64]) -> b
     requires { ⌜ Exact (config h (now table)) (now trees) (now bits) ⌝ }
     ensures { λ r. ⌜ r ≡ allBelow (length (now (trees .entry))) (entryStands (config h (now (table .entry))) (now (trees .entry)) (now (bits .entry))) ⌝ }
 {
+    let places = h.places;
     let mut t: usize = 0;
     while t < trees.len() {
-        if !entry_stands(h, table, trees, bits, t) {
+        if !entry_stands(h, &places, table, trees, bits, t) {
             return false;
         }
         t += 1;
@@ -109,6 +117,22 @@ fn local_stands(
     local::word(locals, j) == 0
 }
 
+// A byte as a number.
+fn wide(x: u8) -> usize
+    ensures { λ r. ⌜ (r ≡ x) × (r < 256) ⌝ }
+{
+    x as usize
+}
+
+// The number of locals of a class.
+fn locals_in(places: &[u8; 8], class: usize) -> usize
+    requires { ⌜ class < 8 ⌝ }
+    ensures { λ r. ⌜ (r ≡ localsOf (now (places .entry)) class) × (r < 256) ⌝ }
+{
+    let place = wide(places[class]);
+    if 0 < place { place - 1 } else { 0 }
+}
+
 // The locals of a class, from its first place on.
 fn class_stands(
     h: Header,
@@ -118,11 +142,12 @@ fn class_stands(
     bits: &[u64],
     class: usize,
     first: usize,
+    len: usize,
 ) -> bool
     requires { ⌜ Exact (config h (now table)) (now trees) (now bits) × ((class < 8) × ((first < 2 ^ 32) × (first ≡ sum (localsOf (h .places)) 0 class))) ⌝ }
+    requires { ⌜ (len ≡ localsOf (h .places) class) × (len < 256) ⌝ }
     ensures { λ r. ⌜ r ≡ classStands (config h (now (table .entry))) (now (trees .entry)) (now (locals .entry)) (now (bits .entry)) class ⌝ }
 {
-    let len = words::locals_of(h, class);
     let mut index: usize = 0;
     while index < len {
         if !local_stands(h, table, trees, locals, bits, class, first + index) {
@@ -138,13 +163,15 @@ fn locals_stand(h: Header, table: &[u32; 64], trees: &[u32], locals: &[u64], bit
     requires { ⌜ Exact (config h (now table)) (now trees) (now bits) ⌝ }
     ensures { λ r. ⌜ r ≡ allBelow 8 (classStands (config h (now (table .entry))) (now (trees .entry)) (now (locals .entry)) (now (bits .entry))) ⌝ }
 {
+    let places = h.places;
     let mut first: usize = 0;
     let mut class: usize = 0;
     while class < 8 {
-        if !class_stands(h, table, trees, locals, bits, class, first) {
+        let len = locals_in(&places, class);
+        if !class_stands(h, table, trees, locals, bits, class, first, len) {
             return false;
         }
-        first += words::locals_of(h, class);
+        first += len;
         class += 1;
     }
     true

@@ -19,14 +19,11 @@ Inv-loop h table trees locals bits class first len index₀ index =
 abbrev μ-loop : tie.MeasureT-loop
 μ-loop h table trees locals bits class first len index₀ index = len - index
 
-locals-of-requires : tie.Need-locals-of-requires Inv-loop μ-loop
-locals-of-requires c κs = search needs
-
 loop-holds : tie.Need-loop-holds Inv-loop μ-loop
 loop-holds c = (search needs, all-none _)
 
 add-local-stands : tie.Need-add-local-stands Inv-loop μ-loop
-add-local-stands c = omega (arith, c .before .before .locals-of .ensures .1)
+add-local-stands c = omega (arith, c .before .before .before .before .before .pre .1 .1)
 
 local-stands-requires : tie.Need-local-stands-requires Inv-loop μ-loop
 local-stands-requires c κs = search needs
@@ -34,7 +31,7 @@ local-stands-requires c κs = search needs
 returns : tie.Need-returns Inv-loop μ-loop
 unfolding classStands slot
 returns c =
-    rw (← c .before .before .before .before .locals-of .ensures .0, ← c .before .before .before .before .before .before .before .before .pre .1 .1 .1)
+    rw (← c .before .before .before .before .before .before .before .pre .1 .0, ← c .before .before .before .before .before .before .before .pre .0 .1 .1 .1)
     (sym (all-fails _ _ (c .before .before .before .loop .index) (c .before .before .loop-test .taken) (sym (c .before .local-stands .ensures) ∙ not-true _ (c .if1 .taken))))
 
 add-index : tie.Need-add-index Inv-loop μ-loop
@@ -49,7 +46,7 @@ loop-again c = (search needs, all-more _ _ (c .before .before .before .loop .inv
 returns-2 : tie.Need-returns-2 Inv-loop μ-loop
 unfolding classStands slot
 returns-2 c =
-    rw (← c .before .before .locals-of .ensures .0, ← c .before .before .before .before .before .before .pre .1 .1 .1)
+    rw (← c .before .before .before .before .before .pre .1 .0, ← c .before .before .before .before .before .pre .0 .1 .1 .1)
     (sym (all-done _ (c .before .loop .index) _ (c .before .loop .inv .0) (c .loop-test .left) (c .before .loop .inv .1)))
 
 pub class-stands-spec : {M : Type 1} → statement M
@@ -58,7 +55,6 @@ class-stands-spec =
     (tie.spec
     Inv-loop
     μ-loop
-    locals-of-requires
     loop-holds
     add-local-stands
     local-stands-requires

@@ -13,10 +13,10 @@ use Rattle.state.proofs.entries_stand.Statement.{statement}
 use Rattle.state.proofs.entries_stand.Tie as tie
 
 abbrev Inv-loop : tie.InvT-loop
-Inv-loop h table trees bits t₀ t = (t ≤ length trees) × (allBelow t (entryStands (config h table) trees bits) ≡ true)
+Inv-loop h table trees bits places t₀ t = (t ≤ length trees) × (allBelow t (entryStands (config h table) trees bits) ≡ true)
 
 abbrev μ-loop : tie.MeasureT-loop
-μ-loop h table trees bits t₀ t = length trees - t
+μ-loop h table trees bits places t₀ t = length trees - t
 
 loop-holds : tie.Need-loop-holds Inv-loop μ-loop
 loop-holds c = (search needs, all-none _)
@@ -25,7 +25,7 @@ entry-stands-requires : tie.Need-entry-stands-requires Inv-loop μ-loop
 entry-stands-requires c κs = search needs
 
 returns : tie.Need-returns Inv-loop μ-loop
-returns c = sym (all-fails _ _ (c .before .before .before .loop .t) (c .before .before .loop-test .taken) (sym (c .before .entry-stands .ensures) ∙ not-true _ (c .if1 .taken)))
+returns c = sym (all-fails _ _ (c .before .before .before .before .loop .t) (c .before .before .before .loop-test .taken) (sym (c .before .entry-stands .ensures) ∙ not-true _ (c .if1 .taken)))
 
 add-t : tie.Need-add-t Inv-loop μ-loop
 add-t c = search needs
@@ -34,7 +34,7 @@ loop-less : tie.Need-loop-less Inv-loop μ-loop
 loop-less c = search needs
 
 loop-again : tie.Need-loop-again Inv-loop μ-loop
-loop-again c = (search needs, all-more _ _ (c .before .before .before .loop .inv .1) (sym (c .before .entry-stands .ensures) ∙ not-false _ (c .if1 .left)))
+loop-again c = (search needs, all-more _ _ (c .before .before .before .before .loop .inv .1) (sym (c .before .entry-stands .ensures) ∙ not-false _ (c .if1 .left)))
 
 returns-2 : tie.Need-returns-2 Inv-loop μ-loop
 returns-2 c = sym (all-done _ (c .before .loop .t) _ (c .before .loop .inv .0) (c .loop-test .left) (c .before .loop .inv .1))

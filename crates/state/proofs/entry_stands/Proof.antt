@@ -1,4 +1,6 @@
 -- `state::entry_stands` meets its contract. Assumes nothing.
+use mathlib.Core.Path.{ap, _∙_}
+use Rattle.rules.specs.Words.{configured}
 use Rattle.ways.specs.Standing.{entryStands}
 use borrow.Author.Tests.{le-leb, lt-leb}
 use borrow.Author.Needs.{needs}
@@ -17,7 +19,7 @@ returns c =
     rw (
       ← c .before .before .before .before .before .load .ensures .0,
       le-leb _ _ (c .before .before .before .if1 .taken),
-      ← c .before .before .is-configured .ensures,
+      ← (c .before .before .is-configured .ensures ∙ ap (λ p. configured p (c .before .before .before .before .before .load .result .class)) (c .before .before .before .before .before .before .before .before .pre .0)),
       c .before .if2 .taken,
       c .if3 .taken,
     )
@@ -31,7 +33,7 @@ returns-2 c =
     rw (
       ← c .before .before .before .before .before .before .before .load .ensures .0,
       le-leb _ _ (c .before .before .before .before .before .if1 .taken),
-      ← c .before .before .before .before .is-configured .ensures,
+      ← (c .before .before .before .before .is-configured .ensures ∙ ap (λ p. configured p (c .before .before .before .before .before .before .before .load .result .class)) (c .before .before .before .before .before .before .before .before .before .before .pre .0)),
       c .before .before .before .if2 .taken,
       c .before .before .if3 .left,
       ← c .before .clear-in .ensures,
@@ -43,7 +45,7 @@ returns-3 c =
     rw (
       ← c .before .before .before .before .load .ensures .0,
       le-leb _ _ (c .before .before .if1 .taken),
-      ← c .before .is-configured .ensures,
+      ← (c .before .is-configured .ensures ∙ ap (λ p. configured p (c .before .before .before .before .load .result .class)) (c .before .before .before .before .before .before .before .pre .0)),
       c .if2 .left,
     )
 

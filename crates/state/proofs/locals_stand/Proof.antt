@@ -14,26 +14,26 @@ use Rattle.state.proofs.locals_stand.Statement.{statement}
 use Rattle.state.proofs.locals_stand.Tie as tie
 
 abbrev Inv-loop : tie.InvT-loop
-Inv-loop h table trees locals bits first₀ class₀ first class =
+Inv-loop h table trees locals bits places first₀ class₀ first class =
     (class ≤ 8) × ((allBelow class (classStands (config h table) trees locals bits) ≡ true) × ((first ≤ 255 * class) × (first ≡ sum (localsOf (h .places)) 0 class)))
 
 abbrev μ-loop : tie.MeasureT-loop
-μ-loop h table trees locals bits first₀ class₀ first class = 8 - class
+μ-loop h table trees locals bits places first₀ class₀ first class = 8 - class
 
 loop-holds : tie.Need-loop-holds Inv-loop μ-loop
-loop-holds c = (search needs, (all-none _, (search needs, rw (sum-none (localsOf (c .before .before .before .args .h .places))))))
+loop-holds c = (search needs, (all-none _, (search needs, rw (sum-none (localsOf (c .before .before .before .before .args .h .places))))))
+
+locals-in-requires : tie.Need-locals-in-requires Inv-loop μ-loop
+locals-in-requires c κs = search needs
 
 class-stands-requires : tie.Need-class-stands-requires Inv-loop μ-loop
 class-stands-requires c κs = search needs
 
 returns : tie.Need-returns Inv-loop μ-loop
-returns c = sym (all-fails 8 _ (c .before .before .before .loop .class) (c .before .before .loop-test .taken) (sym (c .before .class-stands .ensures) ∙ not-true _ (c .if1 .taken)))
-
-locals-of-requires : tie.Need-locals-of-requires Inv-loop μ-loop
-locals-of-requires c κs = search needs
+returns c = sym (all-fails 8 _ (c .before .before .before .before .before .loop .class) (c .before .before .before .before .loop-test .taken) (sym (c .before .class-stands .ensures) ∙ not-true _ (c .if1 .taken)))
 
 add-first : tie.Need-add-first Inv-loop μ-loop
-add-first c = omega (arith, c .locals-of .ensures .1)
+add-first c = omega (arith, c .before .before .locals-in .ensures .1)
 
 add-class : tie.Need-add-class Inv-loop μ-loop
 add-class c = search needs
@@ -45,13 +45,13 @@ loop-again : tie.Need-loop-again Inv-loop μ-loop
 loop-again c = (
   search needs,
   (
-    all-more _ _ (c .before .before .before .before .loop .inv .1 .0) (sym (c .before .before .class-stands .ensures) ∙ not-false _ (c .before .if1 .left)),
+    all-more _ _ (c .before .before .before .before .before .loop .inv .1 .0) (sym (c .before .class-stands .ensures) ∙ not-false _ (c .if1 .left)),
     (
-      omega (arith, c .locals-of .ensures .1),
+      omega (arith, c .before .before .locals-in .ensures .1),
       rw (
-        sum-more (localsOf (c .before .before .before .before .before .before .before .before .args .h .places)) (c .before .before .before .before .loop .class),
-        ← c .before .before .before .before .loop .inv .1 .1 .1,
-        ← c .locals-of .ensures .0,
+        sum-more (localsOf (c .before .before .before .before .before .before .before .before .before .before .args .h .places)) (c .before .before .before .before .before .loop .class),
+        ← c .before .before .before .before .before .loop .inv .1 .1 .1,
+        ← c .before .before .locals-in .ensures .0,
       ),
     ),
   ),
@@ -67,9 +67,9 @@ locals-stand-spec =
     Inv-loop
     μ-loop
     loop-holds
+    locals-in-requires
     class-stands-requires
     returns
-    locals-of-requires
     add-first
     add-class
     loop-less
