@@ -8,6 +8,7 @@ ghost use Rattle.rules.specs.Lower.{putField, mark, setWords, held, heldIn, cle
 ghost use Rattle.lower_laws.specs.Block.{Block};
 ghost use Rattle.lower_laws.specs.Open.{openFrom};
 ghost use Rattle.lower_laws.specs.Word.{word};
+ghost use Rattle.lower_laws.specs.Trailing.{lowestClear};
 
 // 2^order.
 pub fn size(order: usize) -> usize
@@ -130,6 +131,13 @@ pub fn word_held(w: u64, order: usize, block: usize) -> bool
 {
     let n = size(order);
     part(w, block * n, n) == (1u64 << n) - 1
+}
+
+// The lowest clear bit of a word; 64 where there is none.
+pub fn first_clear(w: u64) -> usize
+    ensures { λ r. ⌜ r ≡ lowestClear 64 w ⌝ }
+{
+    u64::trailing_zeros(0xffff_ffff_ffff_ffff - w) as usize
 }
 
 // The n free frames of w from bit s on, held.

@@ -32,12 +32,23 @@ fn seek_word(w: u64, order: usize, want: usize, index: usize) -> usize
     seek_word(w, order - 1, want, right)
 }
 
+// The first wholly free block of the order `want` in a word; 64 where there is none. One frame is the lowest clear bit.
+fn first_block(w: u64, want: usize) -> usize
+    requires { ⌜ want < 6 ⌝ }
+    ensures { λ r. ⌜ r ≡ wordSeek w 6 want 0 ⌝ }
+{
+    if want == 0 {
+        return bits::first_clear(w);
+    }
+    seek_word(w, 6, want, 0)
+}
+
 // The first wholly free block of the order `want` in a row.
 fn seek_row(words: &[u64], want: usize, row: usize) -> Found
     requires { ⌜ (want < 6) × Block (now words) 6 row ⌝ }
     ensures { λ r. ⌜ r ≡ seekIn (now (words .entry)) 6 want row 0 ⌝ }
 {
-    let i = seek_word(words[row], 6, want, 0);
+    let i = first_block(words[row], want);
     let b = row * bits::size(6 - want);
     if i < 64 {
         return Found::At(b + i);
