@@ -3,7 +3,7 @@ use mathlib.Core.Path.{_≡_, refl, sym, ap, _∙_, subst}
 use mathlib.Core.Bool.{Bool, true, false}
 use mathlib.Core.Logic.{_≢_, _⊎_, inl, inr, ⊎-elim}
 use mathlib.Core.List.{List}
-use Prim.Native.Nat.{ℕ, zero, suc, _+_, _-_, _*_, _/_, _^_, _<_, _≤_}
+use Prim.Native.Nat.{ℕ, zero, suc, _+_, _*_, _/_, _^_, _<_, _≤_}
 use native.Mathlib.Omega.{arith}
 use lib.ListN.{length, getD}
 use Rattle.rules.specs.Base.{both, Out, out}
@@ -23,11 +23,12 @@ use Rattle.word_laws.specs.Sizes.{Size, count-frames, count-bits}
 use Rattle.policy_laws.specs.All.{true-false, both-left}
 use Rattle.hand.specs.Hand.{here, nothing, Kept}
 use Rattle.step_laws.specs.Steps.{ifte-ind}
+use Rattle.step_laws.specs.Checked.{Checked, refusal-checked, refusal-range}
 use Rattle.step_laws.specs.Answers.{unless-ind, standing-ind, given-ind}
 use Rattle.moves.specs.Moves.{hand-free}
-use Rattle.keeps.specs.Fine.{Granted, Fine, aligned-block}
+use Rattle.keeps.specs.Fine.{GrantedBlock, Fine, aligned-block}
 use Rattle.keeps.specs.Routes.{routes-fine}
-use Rattle.keeps_calls.specs.Asked.{Accepted, accepts, refusal-range, asks, asked-tree, has-trees}
+use Rattle.keeps_calls.specs.Asked.{asks, asked-tree, has-trees}
 use Rattle.keeps_calls.specs.Drains.{Drained, all-drained, none-left}
 use Rattle.keeps_calls.specs.Fresh.{fresh-clear, fresh-set, zeros-at, fresh-entry, bits-length, fresh-kept}
 use Rattle.keeps_calls.specs.Puts.{putTo-settled}
@@ -39,7 +40,7 @@ pub record GetKeeps (c : Config) (q : Request) (name : Name) (b : List ℕ) (r :
   -- Done or Memory: never Stuck
   pub number : (r .number ≡ 0) ⊎ (r .number ≡ 7)
   -- Done: the block was wholly free, aligned, below F, and the named one; it is what the bitmap holds more; its class is configured
-  pub granted : r .number ≡ 0 → Granted c (q .order) name b (r .frame) (r .class) (r .bits)
+  pub granted : r .number ≡ 0 → GrantedBlock c (q .order) name b (r .frame) (r .class) (r .bits)
   -- else no bit changes
   pub unchanged : r .number ≢ 0 → r .bits ≡ b
 
@@ -51,7 +52,7 @@ pub record GetAny (c : Config) (q : Request) (name : Name) (b : List ℕ) (r : T
   pub sound : r .number ≢ 1
   pub loose : r .number ≢ 9
   -- Done: the block was wholly free, aligned, below F, and the named one; it is what the bitmap holds more; its class is configured
-  pub granted : r .number ≡ 0 → Granted c (q .order) name b (r .frame) (r .class) (r .bits)
+  pub granted : r .number ≡ 0 → GrantedBlock c (q .order) name b (r .frame) (r .class) (r .bits)
   -- else no bit changes
   pub unchanged : r .number ≢ 0 → r .bits ≡ b
 
@@ -117,6 +118,12 @@ pub record StartKeeps (c : Config) (g : ℕ) (r : Told) : Type 0 where
   pub reserved : (t : ℕ) → t < trees c → entryAt (r .trees) t .reserved ≡ false
   pub class : (t : ℕ) → t < trees c → entryAt (r .trees) t .class ≡ c .default
 
+-- a start has no frame free at or past F
+pub at-start : (allFree : Bool) (f : ℕ) → freeAtStart allFree f ≤ f
+unfolding freeAtStart
+at-start true f = omega arith
+at-start false f = omega arith
+
 module _ (c : Config) (t l b : List ℕ) where
   -- ---- a state that fails the test, and a refused request: nothing changes
 
@@ -154,7 +161,7 @@ module _ (c : Config) (t l b : List ℕ) where
         standing-ind (GetKeeps c q name b) c (fresh t l b) _
         (λ _. unless-ind (GetKeeps c q name b) (refusal c q (frameOf name)) (fresh t l b) _
         (λ n d. absurd (omega (arith, d, e)))
-        (λ _. close-keeps q name (routes c q name (fresh t l b)) (routes-fine c sz q name (asks c q name (accepts c q (frameOf name) e)) (fresh t l b) K)))
+        (λ _. close-keeps q name (routes c q name (fresh t l b)) (routes-fine c sz q name (asks c q name (refusal-checked c q (frameOf name) e)) (fresh t l b) K)))
         (λ f. true-false S f)
 
     -- put
@@ -165,17 +172,17 @@ module _ (c : Config) (t l b : List ℕ) where
         (λ _. unless-ind (PutKeeps c q f t l b) (refusal c q f) (fresh t l b) _
         (λ n d. absurd (omega (arith, d, e)))
         (λ _.
-        let A : Accepted c q f = accepts c q f e in
+        let A : Checked c q f = refusal-checked c q f e in
         let lt : f / treeFrames (c .order) < trees c = asked-tree c sz q f A in
-        let at : f / 2 ^ q .order * 2 ^ q .order ≡ f = aligned-block f (q .order) (A .even) in
+        let at : f / 2 ^ q .order * 2 ^ q .order ≡ f = aligned-block f (q .order) (A .aligned) in
         given-ind (PutKeeps c q f t l b) (c .order) (q .order) f (fresh t l b) _ (sz .least) (sz .most) (A .order)
         (λ G.
-        let H = hand-free c sz t l b nothing nothing K (q .order) (f / 2 ^ q .order) (f / treeFrames (c .order)) (G .block) (G .place) (here (f / treeFrames (c .order)) (size q)) (G .held) (omega (arith, at, A .bound)) (λ i. omega arith) in
+        let H = hand-free c sz t l b nothing nothing K (q .order) (f / 2 ^ q .order) (f / treeFrames (c .order)) (G .block) (G .inside) (here (f / treeFrames (c .order)) (size q)) (G .held) (omega (arith, at, A .bounds)) (λ i. omega arith) in
         let P = putTo-settled c sz q f lt (q .local) (fresh t l (mark false b (q .order) (f / 2 ^ q .order))) H in
         record {
           kept = P .0;
           number = inl refl;
-          returned = λ _. record { block = f / 2 ^ q .order; frame = sym at; below = A .bound; inside = G .block; held = G .held; bits = P .1 };
+          returned = λ _. record { block = f / 2 ^ q .order; frame = sym at; below = A .bounds; inside = G .block; held = G .held; bits = P .1 };
           refused = λ n. absurd (omega (arith, n));
         })
         (λ no′.
@@ -238,11 +245,6 @@ module _ (c : Config) (t l b : List ℕ) where
         (λ f. true-false S f)
 
   -- ---- start: all free, or all held
-  at-start : (allFree : Bool) (f : ℕ) → freeAtStart allFree f ≤ f
-  unfolding freeAtStart
-  at-start true f = omega arith
-  at-start false f = omega arith
-
   pub start-keeps : Size (c .order) → (allFree : Bool) → both (accepted c) (lengthsExact c t l b) ≡ true → StartKeeps c (freeAtStart allFree (c .frames)) (start c allFree t l b)
   unfolding start freshState
   start-keeps sz allFree e =
