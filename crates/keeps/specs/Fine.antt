@@ -101,14 +101,14 @@ module _ (c : Config) (sz : Size (c .order)) (q : Request) (name : Name) (A : As
   -- the found block of tree t, of a request's order, is granted
   module _ (s : State) (n h : ℕ → ℕ) (H : Hand c (s .trees) (s .locals) (s .bits) n h) (row t : ℕ) (at : soughtTree (c .order) row name ≡ t)
       (j : ℕ) (N : Named (c .order) (s .bits) row (q .order) name j) where
-    pub found-place : Inside (c .order) (q .order) t j
-    found-place = rw at at (N .inside)
+    pub found-inside : Inside (c .order) (q .order) t j
+    found-inside = rw at at (N .inside)
 
     pub found-below : j * 2 ^ q .order + 2 ^ q .order ≤ c .frames
     found-below = free-below (s .bits) (q .order) j (c .frames) (N .block) (N .free) (H .past)
 
     pub found-hold : (m : ℕ → ℕ) → ((i : ℕ) → n i ≡ m i + here t (size q) i) → Hand c (s .trees) (s .locals) (mark true (s .bits) (q .order) j) m h
-    found-hold m frames = hand-hold c sz (s .trees) (s .locals) (s .bits) n h H (q .order) j t (N .block) found-place m (N .free) frames
+    found-hold m frames = hand-hold c sz (s .trees) (s .locals) (s .bits) n h H (q .order) j t (N .block) found-inside m (N .free) frames
 
     pub found-granted : (k : ℕ) → Configured c k → GrantedBlock c (q .order) name (s .bits) (j * 2 ^ q .order) k (mark true (s .bits) (q .order) j)
     found-granted k conf =

@@ -12,7 +12,7 @@ use Rattle.rules.specs.Lower.{bit, held, heldIn, clear, hit, searchIn}
 use Rattle.rules.specs.declared.Found.{Found}
 use Rattle.rules.specs.declared.Found.the-variants.{At, Nothing}
 use Rattle.policy_laws.specs.All.{both-right}
-use Rattle.lower_laws.specs.Power.{Inside, inside, among, row-tree, first-row}
+use Rattle.lower_laws.specs.Power.{Inside, inside, among, row-tree, tree-first}
 use Rattle.lower_laws.specs.Block.{Block, block-of}
 use Rattle.lower_laws.specs.Sum.{sum-one, sum-all}
 use Rattle.lower_laws.specs.Held.{bit-le}
@@ -97,7 +97,7 @@ module _ (z : ℕ) (ws : List ℕ) (row o : ℕ) (least : 6 ≤ z) (h : o ≤ z)
     unfolding searchIn
     seek-round y e r =
         let t : ℕ = row / treeRows z in
-        let a : row / treeRows z * treeRows z * 64 / 2 ^ o ≤ row / treeRows z * 2 ^ (z - o) = first-row z o (row / treeRows z) least h in
+        let a : row / treeRows z * treeRows z * 64 / 2 ^ o ≤ row / treeRows z * 2 ^ (z - o) = tree-first z o (row / treeRows z) least h in
         let b : seekIn ws z o (row / treeRows z) (row / treeRows z * treeRows z * 64 / 2 ^ o) ≡ seekIn ws z o (row / treeRows z) 0 = seek-all ws z o (row / treeRows z) _ a in
         let c : firstIn (hit ws o (row * 64 / 2 ^ o)) (row / treeRows z * 2 ^ (z - o)) (2 ^ (z - o)) ≡ Nothing = is-seek (row * 64 / 2 ^ o) ∙ sym l ∙ e in
         r ∙ b ∙ sym (is-seek 0) ∙ sym (simp c)

@@ -108,16 +108,16 @@ module _ (c : Config) (sz : Size (c .order)) (q : Request) (A : Asks c q Any) (s
 -- ---- the call
 
 -- Memory, nothing is reachable, and no word has changed; or another answer, and something is
-abbrev Settled : Config → ℕ → Given → List ℕ → List ℕ → List ℕ → Told → Type 0
-Settled c k given t l b r =
+abbrev Decided : Config → ℕ → Given → List ℕ → List ℕ → List ℕ → Told → Type 0
+Decided c k given t l b r =
     ((r .number ≡ 7) × (Unreachable c t l k given × ((r .trees ≡ t) × ((r .locals ≡ l) × (r .bits ≡ b))))) ⊎ ((r .number ≢ 7) × Reachable c t l k given)
 
-close-settled : (c : Config) (k : ℕ) (given : Given) (t l b : List ℕ) (w : Way) → Ends (Reachable c t l k given) (Unreachable c t l k given) t l b w → Settled c k given t l b (close w)
+close-decided : (c : Config) (k : ℕ) (given : Given) (t l b : List ℕ) (w : Way) → Ends (Reachable c t l k given) (Unreachable c t l k given) t l b w → Decided c k given t l b (close w)
 unfolding close
-close-settled c k given t l b (out (Got.Done f x) s) E = inr (λ n. omega (arith, n), E)
-close-settled c k given t l b (out Got.Missed s) E = inl (refl, (E .0, (ap (λ (v : State). v .trees) (E .1), (ap (λ (v : State). v .locals) (E .1), ap (λ (v : State). v .bits) (E .1)))))
-close-settled c k given t l b (out (Got.MissedAt x) s) E = inl (refl, (E .0, (ap (λ (v : State). v .trees) (E .1), (ap (λ (v : State). v .locals) (E .1), ap (λ (v : State). v .bits) (E .1)))))
-close-settled c k given t l b (out Got.Stuck s) E = inr (λ n. omega (arith, n), E)
+close-decided c k given t l b (out (Got.Done f x) s) E = inr (λ n. omega (arith, n), E)
+close-decided c k given t l b (out Got.Missed s) E = inl (refl, (E .0, (ap (λ (v : State). v .trees) (E .1), (ap (λ (v : State). v .locals) (E .1), ap (λ (v : State). v .bits) (E .1)))))
+close-decided c k given t l b (out (Got.MissedAt x) s) E = inl (refl, (E .0, (ap (λ (v : State). v .trees) (E .1), (ap (λ (v : State). v .locals) (E .1), ap (λ (v : State). v .bits) (E .1)))))
+close-decided c k given t l b (out Got.Stuck s) E = inr (λ n. omega (arith, n), E)
 
 -- on words that pass the state test, tree words being words of 32 bits
 module _ (c : Config) (sz : Size (c .order)) (t l b : List ℕ) (w : TreeWords t) (S : standing c t l b ≡ true) (q : Request) (single : q .order ≡ 0) (fit : refusal c q 0 ≡ 0) where
@@ -125,30 +125,30 @@ module _ (c : Config) (sz : Size (c .order)) (t l b : List ℕ) (w : TreeWords t
   K : Kept c t l b
   K = test-kept c sz t l b w S
 
-  settled : Settled c (q .class) (q .local) t l b (get c q Any t l b)
+  decided : Decided c (q .class) (q .local) t l b (get c q Any t l b)
   unfolding get frameOf
-  settled =
-      standing-ind (Settled c (q .class) (q .local) t l b) c (fresh t l b) _
-      (λ _. unless-ind (Settled c (q .class) (q .local) t l b) (refusal c q 0) (fresh t l b) _
+  decided =
+      standing-ind (Decided c (q .class) (q .local) t l b) c (fresh t l b) _
+      (λ _. unless-ind (Decided c (q .class) (q .local) t l b) (refusal c q 0) (fresh t l b) _
       (λ n e. absurd (omega (arith, e, fit)))
-      (λ _. close-settled c (q .class) (q .local) t l b (routes c q Any (fresh t l b)) (routes-ends c sz q (asks c q Any (refusal-checked c q 0 fit)) single t l b K 0 0)))
+      (λ _. close-decided c (q .class) (q .local) t l b (routes c q Any (fresh t l b)) (routes-ends c sz q (asks c q Any (refusal-checked c q 0 fit)) single t l b K 0 0)))
       (λ f. true-false S f)
 
   -- refused with Memory exactly if nothing reachable has a free frame
   pub memory-exactly : (get c q Any t l b .number ≡ 7 → Unreachable c t l (q .class) (q .local)) × (Unreachable c t l (q .class) (q .local) → get c q Any t l b .number ≡ 7)
-  memory-exactly = ((λ n. ⊎-elim (λ x. x .1 .0) (λ x. absurd (x .0 n)) settled), (λ U. ⊎-elim (λ x. x .0) (λ x. absurd (not-both c t l (q .class) (q .local) U (x .1))) settled))
+  memory-exactly = ((λ n. ⊎-elim (λ x. x .1 .0) (λ x. absurd (x .0 n)) decided), (λ U. ⊎-elim (λ x. x .0) (λ x. absurd (not-both c t l (q .class) (q .local) U (x .1))) decided))
 
   -- Done exactly if something reachable has one
   pub done-exactly : (get c q Any t l b .number ≡ 0 → Reachable c t l (q .class) (q .local)) × (Reachable c t l (q .class) (q .local) → get c q Any t l b .number ≡ 0)
   unfolding frameOf
   done-exactly = (
-    (λ n. ⊎-elim (λ x. absurd (omega (arith, n, x .0))) (λ x. x .1) settled),
+    (λ n. ⊎-elim (λ x. absurd (omega (arith, n, x .0))) (λ x. x .1) decided),
     (λ R. ⊎-elim (λ n. n) (λ n. absurd (not-both c t l (q .class) (q .local) (memory-exactly .0 n) R)) (get-keeps c t l b sz S K q Any fit .number)),
   )
 
   -- a get of one frame that is refused with Memory changes no word
   pub memory-unchanged : get c q Any t l b .number ≡ 7 → (get c q Any t l b .trees ≡ t) × ((get c q Any t l b .locals ≡ l) × (get c q Any t l b .bits ≡ b))
-  memory-unchanged n = ⊎-elim (λ x. x .1 .1) (λ x. absurd (x .0 n)) settled
+  memory-unchanged n = ⊎-elim (λ x. x .1 .1) (λ x. absurd (x .0 n)) decided
 
 -- ---- directly after a drain
 

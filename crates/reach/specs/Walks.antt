@@ -38,22 +38,22 @@ use Rattle.walk_laws.specs.Places.{every-tree}
 use Rattle.reach.specs.Ends.{Ends, ends-map, else-ends, Takes, one, access-gives}
 
 -- a list has no tree
-abbrev Empty : List Candidate → Type 0
-Empty [] = Unit {0}
-Empty (x ∷ xs) = ⊥
+abbrev NoneListed : List Candidate → Type 0
+NoneListed [] = Unit {0}
+NoneListed (x ∷ xs) = ⊥
 
-insert-some : (key t : ℕ) (xs : List Candidate) → Empty (insert key t xs) → ⊥
+insert-some : (key t : ℕ) (xs : List Candidate) → NoneListed (insert key t xs) → ⊥
 unfolding insert
 insert-some key t [] = λ e. e
-insert-some key t (rated k u ∷ xs) = ifte-ind (λ (l : List Candidate). Empty l → ⊥) (ltb k key) _ _ (λ _ e. e) (λ _ e. e)
+insert-some key t (rated k u ∷ xs) = ifte-ind (λ (l : List Candidate). NoneListed l → ⊥) (ltb k key) _ _ (λ _ e. e) (λ _ e. e)
 
-take-some : (m : ℕ) (xs : List Candidate) → 0 < m → (Empty xs → ⊥) → Empty (take m xs) → ⊥
+take-some : (m : ℕ) (xs : List Candidate) → 0 < m → (NoneListed xs → ⊥) → NoneListed (take m xs) → ⊥
 take-some zero xs h f e = not-suc-le-zero h
 take-some (suc m) [] h f e = f tt
 take-some (suc m) (x ∷ xs) h f e = e
 
 -- a tree that is listed stays in the list, or a better one
-admit-some : (m key t : ℕ) (xs : List Candidate) → 0 < m → Empty (admit m key t xs) → ⊥
+admit-some : (m key t : ℕ) (xs : List Candidate) → 0 < m → NoneListed (admit m key t xs) → ⊥
 unfolding admit
 admit-some m key t xs h = take-some m (insert key t xs) h (insert-some key t xs)
 
@@ -115,7 +115,7 @@ module _ (c : Config) (sz : Size (c .order)) (q : Request) (A : Asks c q Any) (s
 
     -- before step i: no word has changed; the listed trees may be taken of; with none listed all visited ones were passed over
     abbrev Before : ℕ → List Candidate → State → Type 0
-    Before i xs s = (s ≡ st ts ls bs (s .looks) (s .tries)) × (Every (Takes c ts (q .class)) xs × (Empty xs → Passed i))
+    Before i xs s = (s ≡ st ts ls bs (s .looks) (s .tries)) × (Every (Takes c ts (q .class)) xs × (NoneListed xs → Passed i))
 
     -- after step i
     abbrev After : ℕ → Out Got Sight → Type 0

@@ -5,13 +5,14 @@ use mathlib.Core.Logic.{_⊎_, inl, inr, ⊎-elim}
 use mathlib.Core.List.{List}
 use Prim.Native.Nat.{ℕ, _<_, _≤_}
 use native.Mathlib.Omega.{arith}
-use native.Mathlib.Decide.{ℕ-discrete, decLt}
+use native.Mathlib.Decide.{ℕ-discrete}
 use lib.ListN.{length}
 use Rattle.rules.specs.Base.{bitOf, sum}
 use Rattle.rules.specs.Words.{localAt}
 use Rattle.rules.specs.declared.Local.{Local}
 use Rattle.ways.specs.Standing.{treeOn, presentCount}
 use Rattle.lower_laws.specs.Sum.{sum-zero, sum-ext, zero-at}
+use Rattle.lower_laws.specs.Cases.{neither-below}
 use Rattle.policy_laws.specs.All.{by}
 use Rattle.word_laws.specs.Sums.{sum-only, sum-two, sum-find, sum-swap}
 use Rattle.word_laws.specs.Words.{present-lt}
@@ -82,12 +83,7 @@ module _ (z t : ℕ) (ls : List ℕ) where
 
   -- with at most one holder, two locals on the tree are one
   pub one-on : holders z t ls ≤ 1 → (i j : ℕ) → localAt ls i .present ≡ true → treeOn z (localAt ls i) ≡ t → localAt ls j .present ≡ true → treeOn z (localAt ls j) ≡ t → i ≡ j
-  one-on h i j p o q r = go (decLt i j) (decLt j i)
-    where
-      go : Dec (i < j) → Dec (j < i) → i ≡ j
-      go (yes l) d = absurd (omega (arith, two-before i j l p o q r))
-      go (no l) (yes m) = absurd (omega (arith, two-before j i m q r p o))
-      go (no l) (no m) = omega arith
+  one-on h i j p o q r = neither-below i j (λ l. omega (arith, two-before i j l p o q r)) (λ l. omega (arith, two-before j i l q r p o))
 
   -- a tree has no holder, or there is a local on it
   pub find-on : (holders z t ls ≡ 0) ⊎ ((j : ℕ) × ((j < length ls) × ((localAt ls j .present ≡ true) × (treeOn z (localAt ls j) ≡ t))))

@@ -13,6 +13,7 @@ use Rattle.rules.specs.Policy.{accepted, Good}
 use Rattle.rules.specs.Lower.{bit, held, clear}
 use Rattle.ways.specs.Standing.{treeOn, reservedCount, presentCount, lengthsExact, standing, Standing}
 use Rattle.ways.specs.Calls.{start}
+use Rattle.lower_laws.specs.Cases.{neither-below}
 use Rattle.lower_laws.specs.Sum.{sum-all, one-at, sum-ext}
 use Rattle.lower_laws.specs.Held.{bit-le}
 use Rattle.lower_laws.specs.Clear.{clear-held}
@@ -60,12 +61,7 @@ module _ (c : Config) (sz : Size (c .order)) (ts ls bs : List ℕ) where
     here-lt j p = omega (arith, present-lt ls j p, P .lengths .localWords)
 
     distinct-at : (i j : ℕ) → localAt ls i .present ≡ true → localAt ls j .present ≡ true → treeOn (c .order) (localAt ls i) ≡ treeOn (c .order) (localAt ls j) → i ≡ j
-    distinct-at i j p q e = go (decLt i j) (decLt j i)
-      where
-        go : Dec (i < j) → Dec (j < i) → i ≡ j
-        go (yes l) d = absurd (P .distinct i j l (here-lt j q) p q e)
-        go (no l) (yes m) = absurd (P .distinct j i m (here-lt i p) q p (sym e))
-        go (no l) (no m) = omega arith
+    distinct-at i j p q e = neither-below i j (λ l. P .distinct i j l (here-lt j q) p q e) (λ l. P .distinct j i l (here-lt i p) q p (sym e))
 
     -- a tree has as many holders as its entry is reserved, at most
     holders-le : (t : ℕ) → t < trees c → holders (c .order) t ls ≤ bitOf (entryAt ts t .reserved)

@@ -2,7 +2,7 @@
 use mathlib.Core.Path.{_≡_, refl}
 use mathlib.Core.Bool.{Bool, true, false}
 use mathlib.Core.List.{List}
-use Prim.Native.Nat.{ℕ, zero, suc, _-_, _/_, _^_, _≤_}
+use Prim.Native.Nat.{ℕ, zero, suc, _/_, _^_, _≤_}
 use Rattle.rules.specs.Base.{Out, out}
 use Rattle.rules.specs.Words.{Config, treeFrames}
 use Rattle.rules.specs.Lower.{heldIn, mark, hasTree, lowerPut}

@@ -1,7 +1,7 @@
 -- The looks of a walk are its steps: each step that was done is one look, and nothing else is. Assumes nothing.
 use mathlib.Core.Path.{_≡_, refl}
 use mathlib.Core.List.{List}
-use Prim.Native.Nat.{ℕ, zero, suc, _+_, _-_, _*_}
+use Prim.Native.Nat.{ℕ, zero, suc, _+_, _*_}
 use native.Mathlib.Omega.{arith}
 use lib.Dec.{eqb}
 use Rattle.rules.specs.Base.{Out, out}
