@@ -25,20 +25,19 @@ use Rattle.ways.specs.declared.Got.{Got}
 use Rattle.ways.specs.declared.Got.the-variants as Got
 use Rattle.ways.specs.declared.Walk.{Walk}
 use Rattle.ways.specs.declared.Walk.the-variants as Walk
-use Rattle.ways.specs.declared.Granted.{Granted}
-use Rattle.ways.specs.declared.Granted.the-variants as Granted
 use Rattle.ways.specs.declared.Reply.{Reply}
 use Rattle.ways.specs.State.{State, st, Way, size, indexOf, done, missed, missedAt, stuck, orElse, withTrees, withLocals, withTry, withLook, putEntry, setRow, askLower}
 use Rattle.ways.specs.Locals.{takeBy, topBy, topUp, getLocal, ownLocal, payFrom, stealLocal, demoteTo, moveFrom, demoteLocal}
 use Rattle.ways.specs.Walk.{place, isFull, rate, Candidate, rated, insert, admit, stealGlobal, reserved, reserveOrSteal, access, Sight, visit, walkSteps, walk, tryList, stopped, searchBest}
 use Rattle.ways.specs.Search.{near, roundedStart, searchFar, searchFrom, searchAndReserve, searchAndSteal}
 use Rattle.ways.specs.Get.{lastRoutes, getAt, startTree, getReserving, searchTrees, getAny, routes}
-use Rattle.ways.specs.Calls.{Told, fresh, tellGet, refusal, close, frameOf, get}
+use Rattle.ways.specs.Calls.{Told, fresh, refusal, close, frameOf, get}
 use Rattle.ways.specs.Promises.{Words, GetPromise}
 use Rattle.step_laws.specs.Steps.{ifte-ind, else-ind, from-ind}
 use Rattle.step_laws.specs.Walks.{tried-ind, visit-ind, sight-ind}
 use Rattle.step_laws.specs.Answers.{unless-ind, standing-ind}
 use Rattle.walk_laws.specs.Best.{insert-length}
+use Rattle.complete.specs.Complete.{tell-state}
 use Rattle.step_laws.specs.Ways.{took-any, taken-any, sync-any, held-any, put-any, swap-any, found-any, unreserve-any, unreserveLocal-any}
 
 -- from l looks and t tries: at most d looks more, and at most a tries more than looks more
@@ -323,17 +322,12 @@ get-refused-counts c q name t l b =
 
 -- ---- so do the answers that the promise of `get` allows
 
-told-counts : (g : Granted) (s : State) → (tellGet g s .looks ≡ s .looks) × (tellGet g s .tries ≡ s .tries)
-unfolding tellGet
-told-counts (Granted.Done f k) s = (refl, refl)
-told-counts (Granted.Refused x) s = (refl, refl)
-
 module _ (h : Header) (pairs : List ℕ) (q : Request) (s : Words) (r : Reply) (e : Words) where
   reply-looks : (name : Name) → GetPromise h pairs name q s r e → r .looks ≡ get (config h pairs) q name (s .trees) (s .locals) (s .bits) .looks
-  reply-looks name p = sym (told-counts (r .granted) (st (e .trees) (e .locals) (e .bits) (r .looks) (r .tries)) .0) ∙ ap (λ (x : Told). x .looks) p
+  reply-looks name p = sym (ap (λ (x : State). x .looks) (tell-state (r .granted) (st (e .trees) (e .locals) (e .bits) (r .looks) (r .tries)))) ∙ ap (λ (x : Told). x .looks) p
 
   reply-tries : (name : Name) → GetPromise h pairs name q s r e → r .tries ≡ get (config h pairs) q name (s .trees) (s .locals) (s .bits) .tries
-  reply-tries name p = sym (told-counts (r .granted) (st (e .trees) (e .locals) (e .bits) (r .looks) (r .tries)) .1) ∙ ap (λ (x : Told). x .tries) p
+  reply-tries name p = sym (ap (λ (x : State). x .tries) (tell-state (r .granted) (st (e .trees) (e .locals) (e .bits) (r .looks) (r .tries)))) ∙ ap (λ (x : Told). x .tries) p
 
   pub promise-unnamed-counts : GetPromise h pairs Any q s r e → (r .looks ≤ trees (config h pairs) + near (trees (config h pairs)) - 1) × (r .tries ≤ r .looks + 3)
   promise-unnamed-counts p =
