@@ -68,7 +68,8 @@ number-back (suc (suc (suc (suc (suc (suc (suc (suc (suc (suc zero)))))))))) l m
 number-back (suc (suc (suc (suc (suc (suc (suc (suc (suc (suc (suc zero))))))))))) l m = refl
 number-back (suc (suc (suc (suc (suc (suc (suc (suc (suc (suc (suc (suc n)))))))))))) l m = absurd (omega arith)
 
-same-refusal : (x y : Refusal) → numberOf x ≡ numberOf y → x ≡ y
+-- so no two refusals have one number
+pub same-refusal : (x y : Refusal) → numberOf x ≡ numberOf y → x ≡ y
 same-refusal x y e = sym (back x) ∙ ap refusalOf e ∙ back y
 
 -- no refusal is 0
