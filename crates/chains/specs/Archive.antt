@@ -3,7 +3,7 @@ use mathlib.Core.Path.{_≡_, refl, sym, ap, ap₂, _∙_, subst}
 use mathlib.Core.Bool.{Bool, true, false}
 use mathlib.Core.Logic.{_⊎_, inl, inr, ⊎-elim}
 use mathlib.Core.List.{List, [], _∷_}
-use Prim.Native.Nat.{ℕ, zero, suc, _<_, _≤_}
+use Prim.Native.Nat.{ℕ, zero, suc, _≤_}
 use native.Mathlib.Omega.{arith}
 use lib.Dec.{eqb}
 use lib.ListN.{length-replicate}
@@ -19,7 +19,7 @@ use Rattle.ways.specs.State.{State, st, Way}
 use Rattle.ways.specs.Standing.{standing, lengthsExact}
 use Rattle.ways.specs.Get.{routes}
 use Rattle.ways.specs.Calls.{Told, telling, fresh, numberOf, outcomeOf, tellGet, told, refusal, close, frameOf, get, onGiven, put, drainClasses, closeDrain, drain, start}
-use Rattle.ways.specs.Statistics.{toldTotals, statistics}
+use Rattle.ways.specs.Statistics.{totalFree, freeTrees, reporting, toldTotals, statistics}
 use Rattle.ways.specs.Promises.{Words}
 use Rattle.step_laws.specs.Steps.{ifte-ind}
 use Rattle.step_laws.specs.Checked.{refusal-range}
@@ -106,7 +106,7 @@ granted-back (suc n) f k s (inr (h, (p, q))) =
 figures-by : (c : Config) (ts ls bs : List ℕ) (n : ℕ) (u v : Bool) → standing c ts ls bs ≡ u → eqb n 8 ≡ v
     → toldTotals (totalsFrom (figuresOf (reportOf c ts ls bs n))) (rowsFrom n (figuresOf (reportOf c ts ls bs n))) ≡ statistics c ts ls bs (emptyRows n)
 unfolding reportOf statistics ifte outcomeOf numberOf refusalOf
-figures-by c ts ls bs n true true p q = rw (length-replicate, p, q) (ap (λ r. record { number = 0; free = _; trees = _; rows = r }) (rows-tallies c ts ls))
+figures-by c ts ls bs n true true p q = rw (length-replicate, p, q) (ap (reporting 0 (totalFree c ts ls) (freeTrees c ts ls)) (rows-tallies c ts ls))
 figures-by c ts ls bs n true false p q = rw (length-replicate, p, q)
 figures-by c ts ls bs n false v p q = rw p
 
