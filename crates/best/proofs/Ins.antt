@@ -1,5 +1,5 @@
 -- The insertion in place is insert-and-keep-m on the list that the words hold; what the loop of `admit` keeps. Assumes nothing.
-use mathlib.Core.Path.{_≡_, refl, ap, sym, _∙_}
+use mathlib.Core.Path.{_≡_, refl, ap}
 use mathlib.Core.List.{List, [], _∷_}
 use mathlib.Core.Bool.{Bool, true, false}
 use Prim.Native.Nat.{ℕ, zero, suc, _≤_, _<_, _/_, _%_, _+_, _-_, _*_, _^_}
@@ -9,7 +9,7 @@ use native.Mathlib.Numerals.{add-one}
 use lib.ListN.{length, length-set, set, getD, take}
 use lib.Dec.{ltb}
 use borrow.Author.Tests.{lt-ltb, le-ltb}
-use Rattle.rules.specs.Base.{pick, ifte}
+use Rattle.rules.specs.Base.{ifte}
 use Rattle.ways.specs.Walk.{Candidate, rated, insert, admit}
 use Rattle.best.specs.List.{listOf}
 

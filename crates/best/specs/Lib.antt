@@ -1,3 +1,2 @@
--- the list of the best in words, the laws of the list
+-- the list of the best in words
 pub mod List
-pub mod Laws

@@ -2,7 +2,7 @@
 use mathlib.Core.Path.{_≡_, refl, sym, ap, ap₂, _∙_}
 use mathlib.Core.Bool.{Bool}
 use mathlib.Core.List.{List}
-use Prim.Native.Nat.{ℕ}
+use Prim.Native.Nat.{ℕ, zero, suc, _≤_}
 use native.Mathlib.Omega.{arith}
 use lib.Dec.{eqb}
 use Rattle.rules.specs.Base.{pick}
@@ -24,7 +24,7 @@ use Rattle.ways.specs.Statistics.{Report}
 use Rattle.ways.specs.Promises.{Words, words, StartPromise, GetPromise, PutPromise, DrainPromise, StatisticsPromise}
 
 -- ---- a number tells the refusal
-refusalOf : ℕ → Refusal
+unfoldable pub refusalOf : ℕ → Refusal
 refusalOf n =
     pick (eqb n 1) Refusal.Broken
     (pick (eqb n 2) Refusal.Order
@@ -51,7 +51,25 @@ back Refusal.Stuck = refl
 back Refusal.Config = refl
 back Refusal.Rows = refl
 
-same-refusal : (x y : Refusal) → numberOf x ≡ numberOf y → x ≡ y
+-- each number from 1 to 11 is that of a refusal
+pub number-back : (n : ℕ) → 1 ≤ n → n ≤ 11 → numberOf (refusalOf n) ≡ n
+unfolding numberOf refusalOf
+number-back zero l m = absurd (omega arith)
+number-back (suc zero) l m = refl
+number-back (suc (suc zero)) l m = refl
+number-back (suc (suc (suc zero))) l m = refl
+number-back (suc (suc (suc (suc zero)))) l m = refl
+number-back (suc (suc (suc (suc (suc zero))))) l m = refl
+number-back (suc (suc (suc (suc (suc (suc zero)))))) l m = refl
+number-back (suc (suc (suc (suc (suc (suc (suc zero))))))) l m = refl
+number-back (suc (suc (suc (suc (suc (suc (suc (suc zero)))))))) l m = refl
+number-back (suc (suc (suc (suc (suc (suc (suc (suc (suc zero))))))))) l m = refl
+number-back (suc (suc (suc (suc (suc (suc (suc (suc (suc (suc zero)))))))))) l m = refl
+number-back (suc (suc (suc (suc (suc (suc (suc (suc (suc (suc (suc zero))))))))))) l m = refl
+number-back (suc (suc (suc (suc (suc (suc (suc (suc (suc (suc (suc (suc n)))))))))))) l m = absurd (omega arith)
+
+-- so no two refusals have one number
+pub same-refusal : (x y : Refusal) → numberOf x ≡ numberOf y → x ≡ y
 same-refusal x y e = sym (back x) ∙ ap refusalOf e ∙ back y
 
 -- no refusal is 0
@@ -87,37 +105,22 @@ told-once r q e d p = (
   same-words e d (ap (λ (x : Told). x .trees) p) (ap (λ (x : Told). x .locals) p) (ap (λ (x : Told). x .bits) p),
 )
 
--- a get's answer
-pub record Once (g u : Granted) (s v : State) : Type 0 where
-  pub granted : g ≡ u
-  pub looks : s .looks ≡ v .looks
-  pub tries : s .tries ≡ v .tries
-  pub trees : s .trees ≡ v .trees
-  pub locals : s .locals ≡ v .locals
-  pub bits : s .bits ≡ v .bits
+-- the state of what is told
+abbrev stateOf : Told → State
+stateOf r = st (r .trees) (r .locals) (r .bits) (r .looks) (r .tries)
 
-get-once : (g u : Granted) (s v : State) → tellGet g s ≡ tellGet u v → Once g u s v
+-- a get tells the counts and words of its state, whatever its answer
+pub tell-state : (g : Granted) (s : State) → stateOf (tellGet g s) ≡ s
 unfolding tellGet
-get-once (Granted.Done f k) (Granted.Done a b) s v p =
-    record {
-      granted = ap₂ (λ (x y : ℕ). Granted.Done x y) (ap (λ (x : Told). x .frame) p) (ap (λ (x : Told). x .class) p);
-      looks = ap (λ (x : Told). x .looks) p;
-      tries = ap (λ (x : Told). x .tries) p;
-      trees = ap (λ (x : Told). x .trees) p;
-      locals = ap (λ (x : Told). x .locals) p;
-      bits = ap (λ (x : Told). x .bits) p;
-    }
-get-once (Granted.Done f k) (Granted.Refused y) s v p = refused y (sym (ap (λ (x : Told). x .number) p))
-get-once (Granted.Refused x) (Granted.Done a b) s v p = refused x (ap (λ (x : Told). x .number) p)
-get-once (Granted.Refused x) (Granted.Refused y) s v p =
-    record {
-      granted = ap Granted.Refused (same-refusal x y (ap (λ (x : Told). x .number) p));
-      looks = ap (λ (x : Told). x .looks) p;
-      tries = ap (λ (x : Told). x .tries) p;
-      trees = ap (λ (x : Told). x .trees) p;
-      locals = ap (λ (x : Told). x .locals) p;
-      bits = ap (λ (x : Told). x .bits) p;
-    }
+tell-state (Granted.Done f k) s = refl
+tell-state (Granted.Refused x) s = refl
+
+same-granted : (g u : Granted) (s v : State) → tellGet g s ≡ tellGet u v → g ≡ u
+unfolding tellGet
+same-granted (Granted.Done f k) (Granted.Done a b) s v p = ap₂ (λ (x y : ℕ). Granted.Done x y) (ap (λ (x : Told). x .frame) p) (ap (λ (x : Told). x .class) p)
+same-granted (Granted.Done f k) (Granted.Refused y) s v p = refused y (sym (ap (λ (x : Told). x .number) p))
+same-granted (Granted.Refused x) (Granted.Done a b) s v p = refused x (ap (λ (x : Told). x .number) p)
+same-granted (Granted.Refused x) (Granted.Refused y) s v p = ap Granted.Refused (same-refusal x y (ap (λ (x : Told). x .number) p))
 
 reply : Granted → ℕ → ℕ → Reply
 reply g i k = record { granted = g; looks = i; tries = k }
@@ -142,8 +145,12 @@ module _ (h : Header) (pairs : List ℕ) (s : Words) where
 
   pub get-complete : (name : Name) (a : Request) (r q : Reply) (e d : Words) → GetPromise h pairs name a s r e → GetPromise h pairs name a s q d → (r ≡ q) × (e ≡ d)
   get-complete name a r q e d P Q =
-      let O = get-once (r .granted) (q .granted) (st (e .trees) (e .locals) (e .bits) (r .looks) (r .tries)) (st (d .trees) (d .locals) (d .bits) (q .looks) (q .tries)) (P ∙ sym Q) in
-      (same-reply r q (O .granted) (O .looks) (O .tries), same-words e d (O .trees) (O .locals) (O .bits))
+      let u : State = st (e .trees) (e .locals) (e .bits) (r .looks) (r .tries) in
+      let v : State = st (d .trees) (d .locals) (d .bits) (q .looks) (q .tries) in
+      let O : u ≡ v = sym (tell-state (r .granted) u) ∙ ap stateOf (P ∙ sym Q) ∙ tell-state (q .granted) v in (
+        same-reply r q (same-granted (r .granted) (q .granted) u v (P ∙ sym Q)) (ap (λ (x : State). x .looks) O) (ap (λ (x : State). x .tries) O),
+        same-words e d (ap (λ (x : State). x .trees) O) (ap (λ (x : State). x .locals) O) (ap (λ (x : State). x .bits) O),
+      )
 
   pub put-complete : (f : ℕ) (a : Request) (r q : Outcome) (e d : Words) → PutPromise h pairs f a s r e → PutPromise h pairs f a s q d → (r ≡ q) × (e ≡ d)
   put-complete f a r q e d P Q = told-once r q e d (P ∙ sym Q)

@@ -25,20 +25,20 @@ use Rattle.ways.specs.declared.Got.{Got}
 use Rattle.ways.specs.declared.Got.the-variants as Got
 use Rattle.ways.specs.declared.Walk.{Walk}
 use Rattle.ways.specs.declared.Walk.the-variants as Walk
-use Rattle.ways.specs.declared.Granted.{Granted}
-use Rattle.ways.specs.declared.Granted.the-variants as Granted
 use Rattle.ways.specs.declared.Reply.{Reply}
 use Rattle.ways.specs.State.{State, st, Way, size, indexOf, done, missed, missedAt, stuck, orElse, withTrees, withLocals, withTry, withLook, putEntry, setRow, askLower}
 use Rattle.ways.specs.Locals.{takeBy, topBy, topUp, getLocal, ownLocal, payFrom, stealLocal, demoteTo, moveFrom, demoteLocal}
 use Rattle.ways.specs.Walk.{place, isFull, rate, Candidate, rated, insert, admit, stealGlobal, reserved, reserveOrSteal, access, Sight, visit, walkSteps, walk, tryList, stopped, searchBest}
 use Rattle.ways.specs.Search.{near, roundedStart, searchFar, searchFrom, searchAndReserve, searchAndSteal}
 use Rattle.ways.specs.Get.{lastRoutes, getAt, startTree, getReserving, searchTrees, getAny, routes}
-use Rattle.ways.specs.Calls.{Told, fresh, tellGet, refusal, close, frameOf, get}
+use Rattle.ways.specs.Calls.{Told, fresh, refusal, close, frameOf, get}
 use Rattle.ways.specs.Promises.{Words, GetPromise}
 use Rattle.step_laws.specs.Steps.{ifte-ind, else-ind, from-ind}
 use Rattle.step_laws.specs.Walks.{tried-ind, visit-ind, sight-ind}
 use Rattle.step_laws.specs.Answers.{unless-ind, standing-ind}
-use Rattle.counts.specs.Ways.{took-any, taken-any, sync-any, held-any, put-any, swap-any, found-any, unreserve-any, unreserveLocal-any}
+use Rattle.walk_laws.specs.Best.{insert-length}
+use Rattle.complete.specs.Complete.{tell-state}
+use Rattle.step_laws.specs.Ways.{took-any, taken-any, sync-any, held-any, put-any, swap-any, found-any, unreserve-any, unreserveLocal-any}
 
 -- from l looks and t tries: at most d looks more, and at most a tries more than looks more
 abbrev pub Cost : ℕ → ℕ → ℕ → ℕ → Way → Type 0
@@ -153,12 +153,6 @@ module _ (c : Config) (q : Request) where
   access-one Walk.Stealing j t s = stealGlobal-one Any t s
 
   -- ---- the walk: each look adds at most one try, now or in the list
-  insert-length : (key t : ℕ) (xs : List Candidate) → length (insert key t xs) ≡ suc (length xs)
-  unfolding insert
-  insert-length key t [] = refl
-  insert-length key t (rated k u ∷ xs) =
-      ifte-ind (λ (l : List Candidate). length l ≡ suc (suc (length xs))) (ltb k key) _ _ (λ _. refl) (λ _. ap suc (insert-length key t xs))
-
   admit-length : (m key t : ℕ) (xs : List Candidate) → length (admit m key t xs) ≤ suc (length xs)
   unfolding admit
   admit-length m key t xs = omega (arith, length-take m (insert key t xs), insert-length key t xs)
@@ -171,37 +165,37 @@ module _ (c : Config) (q : Request) where
       (else-cost (s .looks) (s .tries) 0 1 0 (length xs) (access c q w j t s) (tryList c q w j xs) (access-one w j t s) (list-cost w j xs))
 
   -- from the list xs and the state s, d steps
-  abbrev Seen : ℕ → List Candidate → State → Out Got Sight → Type 0
-  Seen d xs s (out g x) = (x .state .looks ≤ s .looks + d) × (x .state .tries + length (x .found) + s .looks ≤ s .tries + x .state .looks + length xs)
+  abbrev WalkCost : ℕ → List Candidate → State → Out Got Sight → Type 0
+  WalkCost d xs s (out g x) = (x .state .looks ≤ s .looks + d) × (x .state .tries + length (x .found) + s .looks ≤ s .tries + x .state .looks + length xs)
 
   module _ (w : Walk) (j m n start : ℕ) where
-    visit-cost : (t : ℕ) (xs : List Candidate) (s : State) → Seen 1 xs s (visit c q w j m t xs s)
+    visit-cost : (t : ℕ) (xs : List Candidate) (s : State) → WalkCost 1 xs s (visit c q w j m t xs s)
     unfolding withLook
     visit-cost t xs s =
         let k : ℕ = 2 * rate c q w (entryAt (s .trees) t) + bitOf (isFull (c .order) (entryAt (s .trees) t)) in
-        visit-ind (Seen 1 xs s) c q w j m t xs s
-        (λ _. tried-ind (One (withLook s)) (Seen 1 xs s) xs (access c q w j t (withLook s)) (access-one w j t (withLook s)) (λ g v C. (omega (arith, C .0), omega (arith, C .0, C .1))))
+        visit-ind (WalkCost 1 xs s) c q w j m t xs s
+        (λ _. tried-ind (One (withLook s)) (WalkCost 1 xs s) xs (access c q w j t (withLook s)) (access-one w j t (withLook s)) (λ g v C. (omega (arith, C .0), omega (arith, C .0, C .1))))
         (λ _. (omega arith, omega arith))
         (λ _. (omega arith, omega (arith, admit-length m k t xs)))
 
-    steps-cost : (d i : ℕ) (xs : List Candidate) (s : State) → Seen d xs s (walkSteps d c q w j m n start i xs s)
+    steps-cost : (d i : ℕ) (xs : List Candidate) (s : State) → WalkCost d xs s (walkSteps d c q w j m n start i xs s)
     unfolding walkSteps
     steps-cost zero i xs s = (omega arith, omega arith)
     steps-cost (suc d) i xs s =
-        sight-ind (Seen 1 xs s) (Seen (suc d) xs s) (visit c q w j m (place n start i) xs s) out (walkSteps d c q w j m n start (i + 1)) (visit-cost (place n start i) xs s)
+        sight-ind (WalkCost 1 xs s) (WalkCost (suc d) xs s) (visit c q w j m (place n start i) xs s) out (walkSteps d c q w j m n start (i + 1)) (visit-cost (place n start i) xs s)
         (λ f k x C. (omega (arith, C .0), omega (arith, C .1)))
         (λ x C. further (x .found) (x .state) C (walkSteps d c q w j m n start (i + 1) (x .found) (x .state)) (steps-cost d (i + 1) (x .found) (x .state)))
         (λ t x C. further (x .found) (x .state) C (walkSteps d c q w j m n start (i + 1) (x .found) (x .state)) (steps-cost d (i + 1) (x .found) (x .state)))
         (λ x C. (omega (arith, C .0), omega (arith, C .1)))
       where
         further : (ys : List Candidate) (v : State) → (v .looks ≤ s .looks + 1) × (v .tries + length ys + s .looks ≤ s .tries + v .looks + length xs)
-            → (o : Out Got Sight) → Seen d ys v o → Seen (suc d) xs s o
+            → (o : Out Got Sight) → WalkCost d ys v o → WalkCost (suc d) xs s o
         further ys v C (out g x) D = (omega (arith, C .0, D .0), omega (arith, C .1, D .1))
 
     search-cost : (first last d : ℕ) → last - first ≤ d → (s : State) → Cost (s .looks) (s .tries) d 0 (searchBest c q w j m n start first last s)
     unfolding searchBest walk stopped
     search-cost first last d le s =
-        sight-ind (Seen (last - first) [] s) (Cost (s .looks) (s .tries) d 0) (walkSteps (last - first) c q w j m n start first [] s) stopped (tryList c q w j)
+        sight-ind (WalkCost (last - first) [] s) (Cost (s .looks) (s .tries) d 0) (walkSteps (last - first) c q w j m n start first [] s) stopped (tryList c q w j)
         (steps-cost (last - first) first [] s)
         (λ f k x C. (omega (arith, C .0), omega (arith, C .1)))
         (λ x C. list (x .found) (x .state) C (tryList c q w j (x .found) (x .state)) (list-cost w j (x .found) (x .state)))
@@ -328,17 +322,12 @@ get-refused-counts c q name t l b =
 
 -- ---- so do the answers that the promise of `get` allows
 
-told-counts : (g : Granted) (s : State) → (tellGet g s .looks ≡ s .looks) × (tellGet g s .tries ≡ s .tries)
-unfolding tellGet
-told-counts (Granted.Done f k) s = (refl, refl)
-told-counts (Granted.Refused x) s = (refl, refl)
-
 module _ (h : Header) (pairs : List ℕ) (q : Request) (s : Words) (r : Reply) (e : Words) where
   reply-looks : (name : Name) → GetPromise h pairs name q s r e → r .looks ≡ get (config h pairs) q name (s .trees) (s .locals) (s .bits) .looks
-  reply-looks name p = sym (told-counts (r .granted) (st (e .trees) (e .locals) (e .bits) (r .looks) (r .tries)) .0) ∙ ap (λ (x : Told). x .looks) p
+  reply-looks name p = sym (ap (λ (x : State). x .looks) (tell-state (r .granted) (st (e .trees) (e .locals) (e .bits) (r .looks) (r .tries)))) ∙ ap (λ (x : Told). x .looks) p
 
   reply-tries : (name : Name) → GetPromise h pairs name q s r e → r .tries ≡ get (config h pairs) q name (s .trees) (s .locals) (s .bits) .tries
-  reply-tries name p = sym (told-counts (r .granted) (st (e .trees) (e .locals) (e .bits) (r .looks) (r .tries)) .1) ∙ ap (λ (x : Told). x .tries) p
+  reply-tries name p = sym (ap (λ (x : State). x .tries) (tell-state (r .granted) (st (e .trees) (e .locals) (e .bits) (r .looks) (r .tries)))) ∙ ap (λ (x : Told). x .tries) p
 
   pub promise-unnamed-counts : GetPromise h pairs Any q s r e → (r .looks ≤ trees (config h pairs) + near (trees (config h pairs)) - 1) × (r .tries ≤ r .looks + 3)
   promise-unnamed-counts p =

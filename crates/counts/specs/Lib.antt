@@ -1,5 +1,3 @@
--- steps with any answer
-pub mod Ways
 -- the bounds
 pub mod Counts
 -- when Memory is answered

@@ -3,19 +3,17 @@ use mathlib.Core.Path.{_≡_, refl, sym, ap, _∙_, subst}
 use mathlib.Core.Bool.{true}
 use mathlib.Core.Logic.{_⊎_, ⊎-elim}
 use mathlib.Core.List.{List}
-use Prim.Native.Nat.{ℕ, _+_, _-_, _*_, _/_, _%_, _^_, _<_, _≤_}
+use Prim.Native.Nat.{ℕ, _+_, _*_, _/_, _%_, _^_, _<_, _≤_}
 use native.Mathlib.Nat.{mul-comm, div-add-mod}
 use native.Mathlib.Omega.{arith}
 use borrow.Author.Tests.{eqb-true}
 use Rattle.rules.specs.Base.{out}
-use Rattle.rules.specs.Words.{Config, treeRows, trees, localsOf, entryAt}
+use Rattle.rules.specs.Words.{Config, treeRows, trees, entryAt}
 use Rattle.rules.specs.Policy.{Configured, Good}
 use Rattle.rules.specs.Locals.{inTree}
 use Rattle.rules.specs.Lower.{heldIn, mark}
 use Rattle.rules.specs.declared.Name.{Name}
 use Rattle.rules.specs.declared.Name.the-variants.{Any, Frame}
-use Rattle.rules.specs.declared.Given.{Given}
-use Rattle.rules.specs.declared.Given.the-variants as Given
 use Rattle.rules.specs.declared.Request.{Request}
 use Rattle.ways.specs.declared.Got.{Got}
 use Rattle.ways.specs.declared.Got.the-variants as Got
@@ -27,6 +25,7 @@ use Rattle.lower_laws.specs.Below.{free-below}
 use Rattle.word_laws.specs.Sizes.{Size}
 use Rattle.hand.specs.Hand.{here, nothing, Hand, Kept}
 use Rattle.step_laws.specs.Steps.{else-ind, askLower-ind, unreserve-ind}
+use Rattle.step_laws.specs.Checked.{LocalIn}
 use Rattle.moves.specs.Moves.{hand-hold}
 use Rattle.moves.specs.Here.{here-same}
 use Rattle.moves.specs.Entries.{hand-put, hand-back, hand-reserved}
@@ -37,7 +36,7 @@ Asked Any f = Unit {0}
 Asked (Frame g) f = f ≡ g
 
 -- the block at frame f of order o is granted to class k: b are the bits before, d after
-pub record Granted (c : Config) (o : ℕ) (name : Name) (b : List ℕ) (f k : ℕ) (d : List ℕ) : Type 0 where
+pub record GrantedBlock (c : Config) (o : ℕ) (name : Name) (b : List ℕ) (f k : ℕ) (d : List ℕ) : Type 0 where
   -- the number of the block: it is aligned
   pub block : ℕ
   pub frame : f ≡ block * 2 ^ o
@@ -55,7 +54,7 @@ pub record Granted (c : Config) (o : ℕ) (name : Name) (b : List ℕ) (f k : �
 
 -- the bits after a route: by a refusal none changes, and no route is stuck
 abbrev pub Moved : Config → ℕ → Name → List ℕ → Got → List ℕ → Type 0
-Moved c o name b (Got.Done f k) d = Granted c o name b f k d
+Moved c o name b (Got.Done f k) d = GrantedBlock c o name b f k d
 Moved c o name b Got.Missed d = d ≡ b
 Moved c o name b (Got.MissedAt t) d = d ≡ b
 Moved c o name b Got.Stuck d = ⊥
@@ -63,11 +62,6 @@ Moved c o name b Got.Stuck d = ⊥
 -- a route that leaves the rules standing, from the bits b
 abbrev pub Fine : Config → ℕ → Name → List ℕ → Way → Type 0
 Fine c o name b (out g s) = Kept c (s .trees) (s .locals) (s .bits) × Moved c o name b g (s .bits)
-
--- the given local is one of the class's
-abbrev pub LocalIn : Config → ℕ → Given → Type 0
-LocalIn c k (Given.Local i) = i < localsOf (c .places) k
-LocalIn c k Given.Nothing = Unit {0}
 
 -- the named frame is aligned, and its block lies below F
 abbrev pub FrameIn : Config → ℕ → Name → Type 0
@@ -107,16 +101,16 @@ module _ (c : Config) (sz : Size (c .order)) (q : Request) (name : Name) (A : As
   -- the found block of tree t, of a request's order, is granted
   module _ (s : State) (n h : ℕ → ℕ) (H : Hand c (s .trees) (s .locals) (s .bits) n h) (row t : ℕ) (at : soughtTree (c .order) row name ≡ t)
       (j : ℕ) (N : Named (c .order) (s .bits) row (q .order) name j) where
-    pub found-place : Inside (c .order) (q .order) t j
-    found-place = rw at at (N .place)
+    pub found-inside : Inside (c .order) (q .order) t j
+    found-inside = rw at at (N .inside)
 
     pub found-below : j * 2 ^ q .order + 2 ^ q .order ≤ c .frames
     found-below = free-below (s .bits) (q .order) j (c .frames) (N .block) (N .free) (H .past)
 
     pub found-hold : (m : ℕ → ℕ) → ((i : ℕ) → n i ≡ m i + here t (size q) i) → Hand c (s .trees) (s .locals) (mark true (s .bits) (q .order) j) m h
-    found-hold m frames = hand-hold c sz (s .trees) (s .locals) (s .bits) n h H (q .order) j t (N .block) found-place m (N .free) frames
+    found-hold m frames = hand-hold c sz (s .trees) (s .locals) (s .bits) n h H (q .order) j t (N .block) found-inside m (N .free) frames
 
-    pub found-granted : (k : ℕ) → Configured c k → Granted c (q .order) name (s .bits) (j * 2 ^ q .order) k (mark true (s .bits) (q .order) j)
+    pub found-granted : (k : ℕ) → Configured c k → GrantedBlock c (q .order) name (s .bits) (j * 2 ^ q .order) k (mark true (s .bits) (q .order) j)
     found-granted k conf =
         record { block = j; frame = refl; below = found-below; inside = N .block; free = N .free; named = asked name (A .frame) (N .named); bits = refl; class = conf }
       where

@@ -31,7 +31,7 @@ use Rattle.step_laws.specs.Steps.{ifte-ind, found-ind, held-ind, put-ind, sync-
 use Rattle.moves.specs.Here.{here-same}
 use Rattle.moves.specs.Entries.{hand-put, hand-sync}
 use Rattle.moves.specs.Locals.{load-same, local-room, hand-take, hand-fill, hand-row}
-use Rattle.keeps.specs.Fine.{Fine, Asks, in-sought, found-place, found-below, found-hold, found-granted}
+use Rattle.keeps.specs.Fine.{Fine, Asks, in-sought, found-inside, found-below, found-hold, found-granted}
 
 -- the local at place j is present, with this row and free
 pub record Holds (ls : List ℕ) (j r f : ℕ) : Type 0 where
@@ -112,10 +112,10 @@ module _ (c : Config) (sz : Size (c .order)) (q : Request) (name : Name) (A : As
       found-ind (Fine c (q .order) name (s .bits)) s1 (c .order) (l .row) (q .order) name _ _ (sz .least) (sz .most) (A .order)
       (λ b N.
       let f : ℕ = b * 2 ^ q .order in
-      let place = found-place c sz q name A s1 (here t (size q)) nothing K1 (l .row) t at b N in
+      let within = found-inside c sz q name A s1 (here t (size q)) nothing K1 (l .row) t at b N in
       let below = found-below c sz q name A s1 (here t (size q)) nothing K1 (l .row) t at b N in
       let K2 = found-hold c sz q name A s1 (here t (size q)) nothing K1 (l .row) t at b N nothing (λ i. omega arith) in
-      let same : f / 64 / treeRows (c .order) ≡ treeOn (c .order) (localAt ls j) = row-of (c .order) sz f ∙ tree-of (c .order) sz t f (place .low) (omega (arith, place .high, pow-pos (q .order))) ∙ sym (ap (λ (x : Local). x .row / treeRows (c .order)) e) in (
+      let same : f / 64 / treeRows (c .order) ≡ treeOn (c .order) (localAt ls j) = row-of (c .order) sz f ∙ tree-of (c .order) sz t f (within .low) (omega (arith, within .high, pow-pos (q .order))) ∙ sym (ap (λ (x : Local). x .row / treeRows (c .order)) e) in (
         hand-row c sz (s .trees) ls (mark true (s .bits) (q .order) b) nothing nothing K2 j (ap (λ (x : Local). x .present) e) (f / 64)
             (row-small (c .order) sz f (c .frames) (omega (arith, below)) (accepted-says c (K .config) .most)) same,
         found-granted c sz q name A s1 (here t (size q)) nothing K1 (l .row) t at b N (q .class) (A .class),

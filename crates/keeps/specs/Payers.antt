@@ -9,8 +9,6 @@ use Rattle.rules.specs.Words.{Config, treeRows, trees, slot, localWord, entryAt
 use Rattle.rules.specs.Policy.{policy, kindAt, Configured, Good}
 use Rattle.rules.specs.Locals.{reservation, inTree, mayPay, mayMove, stealAny, demoteAny}
 use Rattle.rules.specs.declared.Local.{Local}
-use Rattle.rules.specs.declared.Kind.{Kind}
-use Rattle.rules.specs.declared.Kind.the-variants.{Invalid, Steal, Demote, Match}
 use Rattle.rules.specs.declared.Name.{Name}
 use Rattle.rules.specs.declared.Given.{Given}
 use Rattle.rules.specs.declared.Given.the-variants as Given
@@ -22,24 +20,17 @@ use Rattle.ways.specs.Standing.{treeOn}
 use Rattle.ways.specs.Locals.{payFrom, stealLocal, demoteTo, moveFrom, demoteLocal}
 use Rattle.word_laws.specs.Sizes.{Size, frames-le}
 use Rattle.word_laws.specs.Words.{row-lt, present-lt}
-use Rattle.policy_laws.specs.Kinds.{kindNumber, policy-number}
+use Rattle.policy_laws.specs.Kinds.{policy-number}
 use Rattle.policy_laws.specs.Accepted.{accepted-says, down-good}
 use Rattle.hand.specs.Hand.{here, share, holds, nothing, Hand, Kept}
 use Rattle.step_laws.specs.Steps.{held-ind, swap-ind, clear-ind}
-use Rattle.step_laws.specs.Payers.{Pays, payer-ind}
+use Rattle.step_laws.specs.Payers.{Pays, payer-ind, move-kind}
+use Rattle.step_laws.specs.Checked.{LocalIn}
 use Rattle.moves.specs.Here.{share-here, holds-here}
 use Rattle.moves.specs.Moves.{hand-same}
 use Rattle.moves.specs.Locals.{load-same, local-room, hand-take, hand-clear, hand-swap}
-use Rattle.keeps.specs.Fine.{Fine, Asks, LocalIn, in-sought, askLower-fine, back-ind}
+use Rattle.keeps.specs.Fine.{Fine, Asks, in-sought, askLower-fine, back-ind}
 use Rattle.keeps.specs.Reserves.{returned-ind}
-
--- the kind of a pair that may be moved is Demote
-move-kind : (d : Kind) → mayMove d ≡ true → kindNumber d ≡ 2
-unfolding mayMove
-move-kind Invalid e = absurd (let x : _≡_ {A = ℕ} 0 1 = cc in omega arith)
-move-kind Steal e = absurd (let x : _≡_ {A = ℕ} 0 1 = cc in omega arith)
-move-kind Demote e = refl
-move-kind (Match r) e = absurd (let x : _≡_ {A = ℕ} 0 1 = cc in omega arith)
 
 module _ (c : Config) (sz : Size (c .order)) (q : Request) (name : Name) (A : Asks c q name) where
   -- ---- steal from locals
@@ -58,7 +49,7 @@ module _ (c : Config) (sz : Size (c .order)) (q : Request) (name : Name) (A : As
   pub stealLocal-fine : (s : State) → Kept c (s .trees) (s .locals) (s .bits) → Fine c (q .order) name (s .bits) (stealLocal c q name s)
   unfolding stealLocal stealAny payFrom missed
   stealLocal-fine s K =
-      payer-ind (λ (x : Payer). Fine c (q .order) name (s .bits) (payFrom c q name x s)) mayPay c (s .locals) (q .class) (indexOf (q .local)) name (size q)
+      payer-ind mayPay c (s .locals) (q .class) (indexOf (q .local)) name (size q) (λ (x : Payer). Fine c (q .order) name (s .bits) (payFrom c q name x s))
       (K, refl) (λ e j P. payFrom-fine s K e j (P .class)) 8 0
 
   -- ---- demote: the reservation (row, free) is in hand, and the frames asked for
@@ -105,8 +96,8 @@ module _ (c : Config) (sz : Size (c .order)) (q : Request) (name : Name) (A : As
       (λ i. rw is (omega (arith, share-here (c .order) (reservation (l .row) (l .free - size q)) i refl)))
       (λ i. rw is (omega (arith, holds-here (c .order) (reservation (l .row) (l .free - size q)) i refl))) in
       let own : Good c e (entryAt (s .trees) t .class) =
-      subst (λ (x : ℕ). Good c e (entryAt (s .trees) (treeOn (c .order) (localAt (s .locals) x)) .class)) (sym (P .place))
-      (K .pair e (P .index) (P .class .0) (P .indexLt) (subst (λ (x : ℕ). localAt (s .locals) x .present ≡ true) (P .place) p)) in
+      subst (λ (x : ℕ). Good c e (entryAt (s .trees) (treeOn (c .order) (localAt (s .locals) x)) .class)) (sym (P .is))
+      (K .pair e (P .index) (P .class .0) (P .indexLt) (subst (λ (x : ℕ). localAt (s .locals) x .present ≡ true) (P .is) p)) in
       let kind : kindAt c (q .class) e ≡ 2 = sym (policy-number c (q .class) e (size q)) ∙ move-kind (policy c (q .class) e (size q)) (P .passes) in
       let good : Good c (q .class) (entryAt (s .trees) t .class) =
       down-good c (accepted-says c (K .config)) e (entryAt (s .trees) t .class) (q .class) (P .class .0) (K .class t (K .inside j p) .0) (A .class .0) own kind in
@@ -119,5 +110,5 @@ module _ (c : Config) (sz : Size (c .order)) (q : Request) (name : Name) (A : As
   pub demoteLocal-fine : (s : State) → Kept c (s .trees) (s .locals) (s .bits) → Fine c (q .order) name (s .bits) (demoteLocal c q name s)
   unfolding demoteLocal demoteAny moveFrom missed
   demoteLocal-fine s K =
-      payer-ind (λ (x : Payer). Fine c (q .order) name (s .bits) (moveFrom c q name x s)) mayMove c (s .locals) (q .class) (indexOf (q .local)) name (size q)
+      payer-ind mayMove c (s .locals) (q .class) (indexOf (q .local)) name (size q) (λ (x : Payer). Fine c (q .order) name (s .bits) (moveFrom c q name x s))
       (K, refl) (λ e j P. moveFrom-fine s K e j P) 7 1

@@ -1,7 +1,7 @@
 -- All routes of a get leave the rules standing. Assumes nothing.
 use mathlib.Core.Path.{_≡_, refl, subst}
 use mathlib.Core.List.{List}
-use Prim.Native.Nat.{ℕ, _-_, _/_}
+use Prim.Native.Nat.{ℕ, _/_}
 use native.Mathlib.Omega.{arith}
 use lib.Dec.{ltb}
 use lib.Pow.{pow-pos}
@@ -18,7 +18,8 @@ use Rattle.ways.specs.Get.{lastRoutes, getAt, startTree, getReserving, searchTr
 use Rattle.word_laws.specs.Sizes.{Size, tree-below}
 use Rattle.hand.specs.Hand.{Kept}
 use Rattle.step_laws.specs.Steps.{ifte-ind, from-ind}
-use Rattle.keeps.specs.Fine.{Fine, Asks, LocalIn, else-fine}
+use Rattle.step_laws.specs.Checked.{LocalIn}
+use Rattle.keeps.specs.Fine.{Fine, Asks, else-fine}
 use Rattle.keeps.specs.Steals.{stealGlobal-fine}
 use Rattle.keeps.specs.Own.{getLocal-fine, ownLocal-fine}
 use Rattle.keeps.specs.Payers.{stealLocal-fine, demoteLocal-fine}

@@ -38,15 +38,15 @@ module _ (c : Config) (sz : Size (c .order)) (q : Request) (A : Asks c q Any) wh
   access-fine Walk.Stealing j p t lt s K = stealGlobal-fine c sz q Any A t lt (first-row (c .order) sz t) s K
 
   -- what holds in a walk: the route so far is fine, and the list has trees that exist
-  abbrev Seen : List ℕ → Out Got Sight → Type 0
-  Seen b (out g x) = Fine c (q .order) Any b (out g (x .state)) × Every (λ t. t < trees c) (x .found)
+  abbrev WalkFine : List ℕ → Out Got Sight → Type 0
+  WalkFine b (out g x) = Fine c (q .order) Any b (out g (x .state)) × Every (λ t. t < trees c) (x .found)
 
   module _ (w : Walk) (j m : ℕ) (p : PlaceFor c (q .class) w j) (b : List ℕ) where
-    visit-seen : (t : ℕ) → t < trees c → (xs : List Candidate) (s : State) → Kept c (s .trees) (s .locals) (s .bits) × (s .bits ≡ b) → Every (λ t. t < trees c) xs → Seen b (visit c q w j m t xs s)
+    visit-fine : (t : ℕ) → t < trees c → (xs : List Candidate) (s : State) → Kept c (s .trees) (s .locals) (s .bits) × (s .bits ≡ b) → Every (λ t. t < trees c) xs → WalkFine b (visit c q w j m t xs s)
     unfolding withLook
-    visit-seen t lt xs s K E =
-        visit-ind (Seen b) c q w j m t xs s
-        (λ _. tried-ind (Fine c (q .order) Any b) (Seen b) xs (access c q w j t (withLook s))
+    visit-fine t lt xs s K E =
+        visit-ind (WalkFine b) c q w j m t xs s
+        (λ _. tried-ind (Fine c (q .order) Any b) (WalkFine b) xs (access c q w j t (withLook s))
         (subst (λ (d : List ℕ). Fine c (q .order) Any d (access c q w j t (withLook s))) (K .1) (access-fine w j p t lt (withLook s) (K .0)))
         (λ g v F. (F, E)))
         (λ _. (K, E))
@@ -55,9 +55,9 @@ module _ (c : Config) (sz : Size (c .order)) (q : Request) (A : Asks c q Any) wh
     pub searchBest-fine : (start first last : ℕ) (s : State) → Kept c (s .trees) (s .locals) (s .bits) → s .bits ≡ b → Fine c (q .order) Any b (searchBest c q w j m (trees c) start first last s)
     unfolding searchBest walk stopped
     searchBest-fine start first last s K e =
-        sight-ind (Seen b) (Fine c (q .order) Any b) (walk c q w j m (trees c) start first last [] s) stopped (tryList c q w j)
-        (steps-ind c q w j m (trees c) start (λ i xs v. Seen b (out Got.Missed (sight xs v))) (λ i v. Seen b v) (Seen b)
-        (λ i xs v I. visit-seen (place (trees c) start i) (place-lt (trees c) start i (trees-some c (accepted-says c (K .config)))) xs v (I .0) (I .1))
+        sight-ind (WalkFine b) (Fine c (q .order) Any b) (walk c q w j m (trees c) start first last [] s) stopped (tryList c q w j)
+        (steps-ind c q w j m (trees c) start (λ i xs v. WalkFine b (out Got.Missed (sight xs v))) (λ i v. WalkFine b v) (WalkFine b)
+        (λ i xs v I. visit-fine (place (trees c) start i) (place-lt (trees c) start i (trees-some c (accepted-says c (K .config)))) xs v (I .0) (I .1))
         (λ i f k x I. I) (λ i x I. I) (λ i t x I. I) (λ i x I. I)
         (last - first) first (first + (last - first)) refl (λ xs v I. I) [] s ((K, e), tt))
         (λ f k x I. I .0)

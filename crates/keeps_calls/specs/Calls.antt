@@ -3,7 +3,7 @@ use mathlib.Core.Path.{_≡_, refl, sym, ap, _∙_, subst}
 use mathlib.Core.Bool.{Bool, true, false}
 use mathlib.Core.Logic.{_≢_, _⊎_, inl, inr, ⊎-elim}
 use mathlib.Core.List.{List}
-use Prim.Native.Nat.{ℕ, zero, suc, _+_, _-_, _*_, _/_, _^_, _<_, _≤_}
+use Prim.Native.Nat.{ℕ, zero, suc, _+_, _*_, _/_, _^_, _<_, _≤_}
 use native.Mathlib.Omega.{arith}
 use lib.ListN.{length, getD}
 use Rattle.rules.specs.Base.{both, Out, out}
@@ -17,33 +17,23 @@ use Rattle.ways.specs.declared.Got.the-variants as Got
 use Rattle.ways.specs.State.{State, Way, size, withBits}
 use Rattle.ways.specs.Get.{routes}
 use Rattle.ways.specs.Standing.{standing, lengthsExact}
-use Rattle.ways.specs.Calls.{Told, telling, fresh, refusal, close, frameOf, get, put, drainClasses, closeDrain, drain, freeAtStart, freshState, start}
+use Rattle.ways.specs.Calls.{Told, telling, fresh, unless, ifStanding, refusal, close, frameOf, get, put, drainClasses, closeDrain, drain, freeAtStart, freshState, start}
 use Rattle.lower_laws.specs.Block.{Block}
 use Rattle.word_laws.specs.Sizes.{Size, count-frames, count-bits}
 use Rattle.policy_laws.specs.All.{true-false, both-left}
 use Rattle.hand.specs.Hand.{here, nothing, Kept}
 use Rattle.step_laws.specs.Steps.{ifte-ind}
+use Rattle.step_laws.specs.Checked.{Checked, refusal-checked, refusal-range}
 use Rattle.step_laws.specs.Answers.{unless-ind, standing-ind, given-ind}
 use Rattle.moves.specs.Moves.{hand-free}
-use Rattle.keeps.specs.Fine.{Granted, Fine, aligned-block}
+use Rattle.keeps.specs.Fine.{GrantedBlock, Fine, aligned-block}
 use Rattle.keeps.specs.Routes.{routes-fine}
-use Rattle.keeps_calls.specs.Asked.{Accepted, accepts, refusal-range, asks, asked-tree, has-trees}
+use Rattle.keeps_calls.specs.Asked.{asks, asked-tree, has-trees}
 use Rattle.keeps_calls.specs.Drains.{Drained, all-drained, none-left}
 use Rattle.keeps_calls.specs.Fresh.{fresh-clear, fresh-set, zeros-at, fresh-entry, bits-length, fresh-kept}
 use Rattle.keeps_calls.specs.Puts.{putTo-settled}
 
--- ---- get, of a request that no argument test refuses: b are the bits before, r what the call tells
-pub record GetKeeps (c : Config) (q : Request) (name : Name) (b : List ℕ) (r : Told) : Type 0 where
-  -- the rules stand
-  pub kept : Kept c (r .trees) (r .locals) (r .bits)
-  -- Done or Memory: never Stuck
-  pub number : (r .number ≡ 0) ⊎ (r .number ≡ 7)
-  -- Done: the block was wholly free, aligned, below F, and the named one; it is what the bitmap holds more; its class is configured
-  pub granted : r .number ≡ 0 → Granted c (q .order) name b (r .frame) (r .class) (r .bits)
-  -- else no bit changes
-  pub unchanged : r .number ≢ 0 → r .bits ≡ b
-
--- get, of any request: what a sequence of calls goes by
+-- ---- get, of any request: b are the bits before, r what the call tells
 pub record GetAny (c : Config) (q : Request) (name : Name) (b : List ℕ) (r : Told) : Type 0 where
   -- the rules stand
   pub kept : Kept c (r .trees) (r .locals) (r .bits)
@@ -51,9 +41,15 @@ pub record GetAny (c : Config) (q : Request) (name : Name) (b : List ℕ) (r : T
   pub sound : r .number ≢ 1
   pub loose : r .number ≢ 9
   -- Done: the block was wholly free, aligned, below F, and the named one; it is what the bitmap holds more; its class is configured
-  pub granted : r .number ≡ 0 → Granted c (q .order) name b (r .frame) (r .class) (r .bits)
+  pub granted : r .number ≡ 0 → GrantedBlock c (q .order) name b (r .frame) (r .class) (r .bits)
   -- else no bit changes
   pub unchanged : r .number ≢ 0 → r .bits ≡ b
+
+-- of a request that no argument test refuses
+pub record GetKeeps (c : Config) (q : Request) (name : Name) (b : List ℕ) (r : Told) : Type 0 where
+  pub any : GetAny c q name b r
+  -- Done or Memory
+  pub number : (r .number ≡ 0) ⊎ (r .number ≡ 7)
 
 -- ---- the block at frame f of order o is given back: b are the bits before, d after
 pub record Returned (c : Config) (o : ℕ) (b : List ℕ) (f : ℕ) (d : List ℕ) : Type 0 where
@@ -68,18 +64,7 @@ pub record Returned (c : Config) (o : ℕ) (b : List ℕ) (f : ℕ) (d : List �
   -- it is what the bitmap holds less
   pub bits : d ≡ mark false b o block
 
--- put, of a request that no argument test refuses
-pub record PutKeeps (c : Config) (q : Request) (f : ℕ) (t l b : List ℕ) (r : Told) : Type 0 where
-  -- the rules stand
-  pub kept : Kept c (r .trees) (r .locals) (r .bits)
-  -- Done or NotHeld
-  pub number : (r .number ≡ 0) ⊎ (r .number ≡ 8)
-  -- Done: the block was wholly held, and is now free
-  pub returned : r .number ≡ 0 → Returned c (q .order) b f (r .bits)
-  -- NotHeld: a frame of the block is free, and nothing changes
-  pub refused : r .number ≡ 8 → (heldIn b (q .order) (f / 2 ^ q .order) ≢ 2 ^ q .order) × ((r .trees ≡ t) × ((r .locals ≡ l) × (r .bits ≡ b)))
-
--- put, of any request: what a sequence of calls goes by
+-- put, of any request
 pub record PutAny (c : Config) (q : Request) (f : ℕ) (t l b : List ℕ) (r : Told) : Type 0 where
   -- the rules stand
   pub kept : Kept c (r .trees) (r .locals) (r .bits)
@@ -90,6 +75,14 @@ pub record PutAny (c : Config) (q : Request) (f : ℕ) (t l b : List ℕ) (r : T
   pub returned : r .number ≡ 0 → Returned c (q .order) b f (r .bits)
   -- else nothing changes
   pub unchanged : r .number ≢ 0 → (r .trees ≡ t) × ((r .locals ≡ l) × (r .bits ≡ b))
+
+-- of a request that no argument test refuses
+pub record PutKeeps (c : Config) (q : Request) (f : ℕ) (t l b : List ℕ) (r : Told) : Type 0 where
+  pub any : PutAny c q f t l b r
+  -- Done or NotHeld
+  pub number : (r .number ≡ 0) ⊎ (r .number ≡ 8)
+  -- NotHeld: a frame of the block is free
+  pub refused : r .number ≡ 8 → heldIn b (q .order) (f / 2 ^ q .order) ≢ 2 ^ q .order
 
 -- ---- drain
 pub record DrainKeeps (c : Config) (b : List ℕ) (r : Told) : Type 0 where
@@ -117,34 +110,42 @@ pub record StartKeeps (c : Config) (g : ℕ) (r : Told) : Type 0 where
   pub reserved : (t : ℕ) → t < trees c → entryAt (r .trees) t .reserved ≡ false
   pub class : (t : ℕ) → t < trees c → entryAt (r .trees) t .class ≡ c .default
 
+-- a start has no frame free at or past F
+pub at-start : (allFree : Bool) (f : ℕ) → freeAtStart allFree f ≤ f
+unfolding freeAtStart
+at-start true f = omega arith
+at-start false f = omega arith
+
 module _ (c : Config) (t l b : List ℕ) where
   -- ---- a state that fails the test, and a refused request: nothing changes
 
-  pub get-refused : (q : Request) (name : Name) (n : ℕ) → standing c t l b ≡ true → refusal c q (frameOf name) ≡ suc n → get c q name t l b ≡ telling (suc n) 0 0 (fresh t l b)
-  unfolding get
-  get-refused q name n h e =
+  is-refused : (m n : ℕ) (next : State → Told) → standing c t l b ≡ true → m ≡ suc n → ifStanding c (fresh t l b) (λ s. unless m s next) ≡ telling (suc n) 0 0 (fresh t l b)
+  is-refused m n next h e =
       standing-ind (λ (r : Told). r ≡ telling (suc n) 0 0 (fresh t l b)) c (fresh t l b) _
-      (λ _. unless-ind (λ (r : Told). r ≡ telling (suc n) 0 0 (fresh t l b)) (refusal c q (frameOf name)) (fresh t l b) _
-      (λ m d. (let x : suc m ≡ suc n = sym d ∙ e in ap (λ (y : ℕ). telling y 0 0 (fresh t l b)) x))
+      (λ _. unless-ind (λ (r : Told). r ≡ telling (suc n) 0 0 (fresh t l b)) m (fresh t l b) next
+      (λ i d. (let x : suc i ≡ suc n = sym d ∙ e in ap (λ (y : ℕ). telling y 0 0 (fresh t l b)) x))
       (λ d. absurd (omega (arith, d, e))))
       (λ g. true-false h g)
+
+  pub get-refused : (q : Request) (name : Name) (n : ℕ) → standing c t l b ≡ true → refusal c q (frameOf name) ≡ suc n → get c q name t l b ≡ telling (suc n) 0 0 (fresh t l b)
+  unfolding get
+  get-refused q name n h e = is-refused (refusal c q (frameOf name)) n _ h e
 
   pub put-refused : (q : Request) (f n : ℕ) → standing c t l b ≡ true → refusal c q f ≡ suc n → put c q f t l b ≡ telling (suc n) 0 0 (fresh t l b)
   unfolding put
-  put-refused q f n h e =
-      standing-ind (λ (r : Told). r ≡ telling (suc n) 0 0 (fresh t l b)) c (fresh t l b) _
-      (λ _. unless-ind (λ (r : Told). r ≡ telling (suc n) 0 0 (fresh t l b)) (refusal c q f) (fresh t l b) _
-      (λ m d. (let x : suc m ≡ suc n = sym d ∙ e in ap (λ (y : ℕ). telling y 0 0 (fresh t l b)) x))
-      (λ d. absurd (omega (arith, d, e))))
-      (λ g. true-false h g)
+  put-refused q f n h e = is-refused (refusal c q f) n _ h e
 
   -- ---- the state passes the test
   module _ (sz : Size (c .order)) (S : standing c t l b ≡ true) (K : Kept c t l b) where
+    missed-any : (q : Request) (name : Name) (s : State) → Fine c (q .order) name b (out Got.Missed s) → GetAny c q name b (telling 7 0 0 s)
+    missed-any q name s F = record { kept = F .0; sound = λ x. omega (arith, x); loose = λ x. omega (arith, x); granted = λ x. absurd (omega (arith, x)); unchanged = λ _. F .1 }
+
     close-keeps : (q : Request) (name : Name) (w : Way) → Fine c (q .order) name b w → GetKeeps c q name b (close w)
     unfolding close
-    close-keeps q name (out (Got.Done f k) s) F = record { kept = F .0; number = inl refl; granted = λ _. F .1; unchanged = λ n. absurd (n refl) }
-    close-keeps q name (out Got.Missed s) F = record { kept = F .0; number = inr refl; granted = λ n. absurd (omega (arith, n)); unchanged = λ _. F .1 }
-    close-keeps q name (out (Got.MissedAt t) s) F = record { kept = F .0; number = inr refl; granted = λ n. absurd (omega (arith, n)); unchanged = λ _. F .1 }
+    close-keeps q name (out (Got.Done f k) s) F =
+        record { any = record { kept = F .0; sound = λ x. omega (arith, x); loose = λ x. omega (arith, x); granted = λ _. F .1; unchanged = λ n. absurd (n refl) }; number = inl refl }
+    close-keeps q name (out Got.Missed s) F = record { any = missed-any q name s F; number = inr refl }
+    close-keeps q name (out (Got.MissedAt t) s) F = record { any = missed-any q name s F; number = inr refl }
     close-keeps q name (out Got.Stuck s) F = absurd (F .1)
 
     -- get
@@ -154,7 +155,7 @@ module _ (c : Config) (t l b : List ℕ) where
         standing-ind (GetKeeps c q name b) c (fresh t l b) _
         (λ _. unless-ind (GetKeeps c q name b) (refusal c q (frameOf name)) (fresh t l b) _
         (λ n d. absurd (omega (arith, d, e)))
-        (λ _. close-keeps q name (routes c q name (fresh t l b)) (routes-fine c sz q name (asks c q name (accepts c q (frameOf name) e)) (fresh t l b) K)))
+        (λ _. close-keeps q name (routes c q name (fresh t l b)) (routes-fine c sz q name (asks c q name (refusal-checked c q (frameOf name) e)) (fresh t l b) K)))
         (λ f. true-false S f)
 
     -- put
@@ -165,25 +166,29 @@ module _ (c : Config) (t l b : List ℕ) where
         (λ _. unless-ind (PutKeeps c q f t l b) (refusal c q f) (fresh t l b) _
         (λ n d. absurd (omega (arith, d, e)))
         (λ _.
-        let A : Accepted c q f = accepts c q f e in
+        let A : Checked c q f = refusal-checked c q f e in
         let lt : f / treeFrames (c .order) < trees c = asked-tree c sz q f A in
-        let at : f / 2 ^ q .order * 2 ^ q .order ≡ f = aligned-block f (q .order) (A .even) in
+        let at : f / 2 ^ q .order * 2 ^ q .order ≡ f = aligned-block f (q .order) (A .aligned) in
         given-ind (PutKeeps c q f t l b) (c .order) (q .order) f (fresh t l b) _ (sz .least) (sz .most) (A .order)
         (λ G.
-        let H = hand-free c sz t l b nothing nothing K (q .order) (f / 2 ^ q .order) (f / treeFrames (c .order)) (G .block) (G .place) (here (f / treeFrames (c .order)) (size q)) (G .held) (omega (arith, at, A .bound)) (λ i. omega arith) in
+        let H = hand-free c sz t l b nothing nothing K (q .order) (f / 2 ^ q .order) (f / treeFrames (c .order)) (G .block) (G .inside) (here (f / treeFrames (c .order)) (size q)) (G .held) (omega (arith, at, A .bounds)) (λ i. omega arith) in
         let P = putTo-settled c sz q f lt (q .local) (fresh t l (mark false b (q .order) (f / 2 ^ q .order))) H in
         record {
-          kept = P .0;
+          any = record {
+            kept = P .0;
+            sound = λ x. omega (arith, x);
+            loose = λ x. omega (arith, x);
+            returned = λ _. record { block = f / 2 ^ q .order; frame = sym at; below = A .bounds; inside = G .block; held = G .held; bits = P .1 };
+            unchanged = λ n. absurd (n refl);
+          };
           number = inl refl;
-          returned = λ _. record { block = f / 2 ^ q .order; frame = sym at; below = A .bound; inside = G .block; held = G .held; bits = P .1 };
           refused = λ n. absurd (omega (arith, n));
         })
         (λ no′.
         record {
-          kept = K;
+          any = record { kept = K; sound = λ x. omega (arith, x); loose = λ x. omega (arith, x); returned = λ n. absurd (omega (arith, n)); unchanged = λ _. (refl, (refl, refl)) };
           number = inr refl;
-          returned = λ n. absurd (omega (arith, n));
-          refused = λ _. (no′ (has-trees c t l b K (f / treeFrames (c .order)) lt), (refl, (refl, refl)));
+          refused = λ _. no′ (has-trees c t l b K (f / treeFrames (c .order)) lt);
         })))
         (λ g. true-false S g)
 
@@ -192,15 +197,7 @@ module _ (c : Config) (t l b : List ℕ) where
     get-any q name = go (refusal c q (frameOf name)) refl
       where
         go : (n : ℕ) → refusal c q (frameOf name) ≡ n → GetAny c q name b (get c q name t l b)
-        go zero e =
-            let G = get-keeps q name e in
-            record {
-              kept = G .kept;
-              sound = λ x. ⊎-elim (λ y. omega (arith, x, y)) (λ y. omega (arith, x, y)) (G .number);
-              loose = λ x. ⊎-elim (λ y. omega (arith, x, y)) (λ y. omega (arith, x, y)) (G .number);
-              granted = G .granted;
-              unchanged = G .unchanged;
-            }
+        go zero e = get-keeps q name e .any
         go (suc n) e =
             let R = ⊎-elim {C = (1 ≤ n) × (n ≤ 5)} (λ y. absurd (omega (arith, e, y))) (λ y. (omega (arith, e, y .0), omega (arith, e, y .1))) (refusal-range c q (frameOf name)) in
             subst (GetAny c q name b) (sym (get-refused q name n S e))
@@ -210,15 +207,7 @@ module _ (c : Config) (t l b : List ℕ) where
     put-any q f = go (refusal c q f) refl
       where
         go : (n : ℕ) → refusal c q f ≡ n → PutAny c q f t l b (put c q f t l b)
-        go zero e =
-            let P = put-keeps q f e in
-            record {
-              kept = P .kept;
-              sound = λ x. ⊎-elim (λ y. omega (arith, x, y)) (λ y. omega (arith, x, y)) (P .number);
-              loose = λ x. ⊎-elim (λ y. omega (arith, x, y)) (λ y. omega (arith, x, y)) (P .number);
-              returned = P .returned;
-              unchanged = λ x. ⊎-elim (λ y. absurd (x y)) (λ y. P .refused y .1) (P .number);
-            }
+        go zero e = put-keeps q f e .any
         go (suc n) e =
             let R = ⊎-elim {C = (1 ≤ n) × (n ≤ 5)} (λ y. absurd (omega (arith, e, y))) (λ y. (omega (arith, e, y .0), omega (arith, e, y .1))) (refusal-range c q f) in
             subst (PutAny c q f t l b) (sym (put-refused q f n S e))
@@ -238,11 +227,6 @@ module _ (c : Config) (t l b : List ℕ) where
         (λ f. true-false S f)
 
   -- ---- start: all free, or all held
-  at-start : (allFree : Bool) (f : ℕ) → freeAtStart allFree f ≤ f
-  unfolding freeAtStart
-  at-start true f = omega arith
-  at-start false f = omega arith
-
   pub start-keeps : Size (c .order) → (allFree : Bool) → both (accepted c) (lengthsExact c t l b) ≡ true → StartKeeps c (freeAtStart allFree (c .frames)) (start c allFree t l b)
   unfolding start freshState
   start-keeps sz allFree e =

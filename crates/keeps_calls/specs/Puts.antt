@@ -1,7 +1,7 @@
 -- The frames of a put go to the given local if it holds their tree, else to the entry: the rules stand. Assumes nothing.
 use mathlib.Core.Path.{_≡_, refl, ap}
 use mathlib.Core.List.{List}
-use Prim.Native.Nat.{ℕ, _-_, _/_, _<_}
+use Prim.Native.Nat.{ℕ, _/_, _<_}
 use native.Mathlib.Omega.{arith}
 use Rattle.rules.specs.Words.{Config, treeFrames, trees, slot, localAt}
 use Rattle.rules.specs.declared.Given.{Given}

@@ -1,2 +1,2 @@
--- what the state test and the argument tests give to the calls behind them
-pub mod Tested
+-- how a refusal is told
+pub mod Refusals

@@ -3,9 +3,8 @@ use mathlib.Core.Path.{_≡_, refl, sym, ap, _∙_}
 use mathlib.Core.Bool.{Bool, true, false}
 use mathlib.Core.List.{List}
 use mathlib.Core.Logic.{⊎-elim}
-use Prim.Native.Nat.{ℕ, zero, suc, _+_, _-_, _%_, _<_, _≤_}
-use native.Mathlib.Nat.{add-zero, zero-add, add-assoc, mod-lt, mod-self, mod-eq-of-lt, mod-add-mod, eq-or-lt-of-le}
-use native.Mathlib.Numerals.{add-one}
+use Prim.Native.Nat.{ℕ, suc, _+_, _-_, _%_, _<_, _≤_}
+use native.Mathlib.Nat.{add-zero, add-assoc, mod-lt, mod-self, mod-eq-of-lt, mod-add-mod, eq-or-lt-of-le}
 use native.Mathlib.Omega.{arith}
 use borrow.Author.Tests.{eq-eqb, ne-eqb}
 use lib.Dec.{eqb}
@@ -19,6 +18,7 @@ use Rattle.rules.specs.declared.Found.{Found}
 use Rattle.rules.specs.declared.Found.the-variants.{At, Nothing}
 use Rattle.rules.specs.declared.Payer.{Payer}
 use Rattle.rules.specs.declared.Payer.the-variants as Payer
+use Rattle.lower_laws.specs.First.{first-hit}
 
 -- ---- the locals of a class in turn
 
@@ -33,19 +33,6 @@ round first len from d = first + (from + d) % len
 -- that local has enough
 unfoldable pub enough : ℕ → List ℕ → ℕ → ℕ → ℕ → Name → ℕ → ℕ → Bool
 enough z ls first len from name n d = hasEnough z (localAt ls (round first len from d)) name n
-
-module _ (t : ℕ → Bool) where
-  pub first-more : (d : ℕ) → firstIn t 0 d ≡ Nothing → t d ≡ false → firstIn t 0 (d + 1) ≡ Nothing
-  unfolding firstIn
-  first-more d h e = rw (add-one d, h, zero-add d, e)
-
-  pub first-hit : (len d : ℕ) → d < len → firstIn t 0 d ≡ Nothing → t d ≡ true → firstIn t 0 len ≡ At d
-  unfolding firstIn
-  first-hit zero d l h e = absurd (omega arith)
-  first-hit (suc len) d l h e =
-      ⊎-elim (λ (q : d ≡ len). rw (← q, h, zero-add d, e))
-      (λ (m : d < len). rw (first-hit len d m h e))
-      (eq-or-lt-of-le (let g : d ≤ len = omega arith in g))
 
 module _ (z : ℕ) (ps ls : List ℕ) (k from : ℕ) (name : Name) (n first len : ℕ) (f : first ≡ sum (localsOf ps) 0 k) (l : len ≡ localsOf ps k) where
   -- no local of the class, or none of them has enough

@@ -23,6 +23,10 @@ below-or x y = go (ltb x y) refl
     go true e = inl (ltb-true x y e)
     go false e = inr (ltb-false x y e)
 
+-- equal, where neither is below the other
+pub neither-below : (x y : ℕ) → (x < y → ⊥) → (y < x → ⊥) → x ≡ y
+neither-below x y f g = ⊎-elim (λ l. absurd (f l)) (λ l. ⊎-elim (λ m. absurd (g m)) (λ m. omega arith) (below-or y x)) (below-or x y)
+
 -- by which of two different numbers is below the other
 pub by-side : {X : Type 0} (a b : ℕ) → (a ≡ b → ⊥) → (a < b → X) → (b < a → X) → X
 by-side a b ne f g = ⊎-elim f (λ l. g (omega arith)) (below-or a b)

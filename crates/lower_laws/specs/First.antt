@@ -3,7 +3,8 @@ use mathlib.Core.Path.{_≡_, refl, sym, ap, ap₂, _∙_}
 use mathlib.Core.Bool.{Bool, true, false}
 use mathlib.Core.Logic.{⊎-elim}
 use Prim.Native.Nat.{ℕ, zero, suc, _+_, _-_, _*_, _^_, _<_, _≤_}
-use native.Mathlib.Nat.{add-zero, add-suc, add-assoc, eq-or-lt-of-le, le-dest}
+use native.Mathlib.Numerals.{add-one}
+use native.Mathlib.Nat.{add-zero, zero-add, add-suc, add-assoc, eq-or-lt-of-le, le-dest}
 use native.Mathlib.Omega.{arith}
 use Rattle.rules.specs.Base.{pick, orFound, firstIn}
 use Rattle.rules.specs.declared.Found.{Found}
@@ -104,6 +105,15 @@ module _ (t : ℕ → Bool) where
       go : (x : Found) → firstIn t a n ≡ x → (firstIn t a n ≡ At i → (j : ℕ) → a ≤ j → j < i → t j ≡ false) → t k ≡ false
       go (At j) h before = let c : j ≡ i = (let q : At j ≡ At i = simp h at e in cc) in before (h ∙ ap At c) k l m
       go Nothing h before = let c : a + n ≡ i = last (t (a + n)) (simp h at e) in first-empty a n h k l (omega arith)
+
+  -- a loop that counts up from 0: one number more that does not pass
+  pub first-more : (d : ℕ) → firstIn t 0 d ≡ Nothing → t d ≡ false → firstIn t 0 (d + 1) ≡ Nothing
+  unfolding firstIn
+  first-more d h e = rw (add-one d, h, zero-add d, e)
+
+  -- and the first that does
+  pub first-hit : (n d : ℕ) → d < n → firstIn t 0 d ≡ Nothing → t d ≡ true → firstIn t 0 n ≡ At d
+  first-hit n d l h e = first-at 0 n d (omega arith) (omega arith) (λ i a b. first-empty 0 d h i a (omega arith)) e
 
   -- a range of 2^(o - w) from i * 2^(o - w) is its halves
   pub first-half : (o w i : ℕ) → w < o

@@ -9,24 +9,17 @@ use lib.Dec.{eqb, leb, ltb}
 use lib.ListN.{length}
 use lib.Pow.{pow-mono}
 use borrow.Author.Tests.{leb-true, ltb-true, eqb-true, eqb-false}
-use Rattle.rules.specs.Base.{pick, both, Out, out}
+use Rattle.rules.specs.Base.{pick, Out, out}
 use Rattle.rules.specs.Words.{treeFrames, treeRows}
 use Rattle.rules.specs.Lower.{held, heldIn, mark, searchIn, hasTree, lowerFind, lowerTake, lowerGet, lowerPut}
 use Rattle.rules.specs.declared.Found.{Found}
 use Rattle.rules.specs.declared.Found.the-variants.{At, Nothing}
 use Rattle.rules.specs.declared.Name.{Name}
 use Rattle.rules.specs.declared.Name.the-variants.{Any, Frame}
+use Rattle.policy_laws.specs.All.{both-left, both-right}
 use Rattle.lower_laws.specs.Power.{Inside, in-tree, tree-words}
 use Rattle.lower_laws.specs.Block.{Block, block-of}
 use Rattle.lower_laws.specs.Search.{search-found}
-
-both-left : (a b : Bool) → both a b ≡ true → a ≡ true
-both-left true b h = refl
-both-left false b h = h
-
-both-right : (a b : Bool) → both a b ≡ true → b ≡ true
-both-right true b h = h
-both-right false b h = absurd (let z : _≡_ {A = ℕ} 0 1 = cc in omega arith)
 
 -- the tree of order z that the bitmap has
 module _ (z : ℕ) (ws : List ℕ) (t : ℕ) (least : 6 ≤ z) (most : z ≤ 18) (e : hasTree z ws t ≡ true) where
@@ -68,15 +61,15 @@ pub record Named (z : ℕ) (ws : List ℕ) (row o : ℕ) (name : Name) (j : ℕ)
   pub block : Block ws o j
   pub free : heldIn ws o j ≡ 0
   pub has : hasTree z ws (soughtTree z row name) ≡ true
-  pub place : Inside z o (soughtTree z row name) j
+  pub inside : Inside z o (soughtTree z row name) j
   pub named : IsNamed name o j
 
 -- the block that a put gives back: wholly held, in the bitmap
-pub record Given (z : ℕ) (ws : List ℕ) (o f : ℕ) : Type 0 where
+pub record HeldBlock (z : ℕ) (ws : List ℕ) (o f : ℕ) : Type 0 where
   pub block : Block ws o (f / 2 ^ o)
   pub held : heldIn ws o (f / 2 ^ o) ≡ 2 ^ o
   pub has : hasTree z ws (f / treeFrames z) ≡ true
-  pub place : Inside z o (f / treeFrames z) (f / 2 ^ o)
+  pub inside : Inside z o (f / treeFrames z) (f / 2 ^ o)
 
 module _ (z : ℕ) (ws : List ℕ) (o : ℕ) (least : 6 ≤ z) (most : z ≤ 18) (small : o ≤ z) where
   -- the block of a frame whose tree the bitmap has
@@ -93,7 +86,7 @@ module _ (z : ℕ) (ws : List ℕ) (o : ℕ) (least : 6 ≤ z) (most : z ≤ 18)
           let s = search-found z ws (row / treeRows z) o row j small p in
           let b : Block ws z (row / treeRows z) = has-block z ws (row / treeRows z) least most q in
           let i : row / treeRows z * 2 ^ z + 2 ^ z ≤ length ws * 64 = b .inside in
-          record { block = record { order = omega arith; inside = omega (arith, s .place .high); small = b .small }; free = s .free; has = q; place = s .place; named = tt }
+          record { block = record { order = omega arith; inside = omega (arith, s .inside .high); small = b .small }; free = s .free; has = q; inside = s .inside; named = tt }
       go false q p = absurd (let c : _≡_ {A = ℕ} 0 1 = cc in omega arith)
   find-is row (Frame f) j e = go (hasTree z ws (f / treeFrames z)) refl (eqb (heldIn ws o (f / 2 ^ o)) 0) refl e
     where
@@ -102,7 +95,7 @@ module _ (z : ℕ) (ws : List ℕ) (o : ℕ) (least : 6 ≤ z) (most : z ≤ 18)
       go true q true r p =
           let k : f / 2 ^ o ≡ j = cc in
           let b : Named z ws row o (Frame f) (f / 2 ^ o) =
-          record { block = frame-block f q; free = eqb-true _ _ r; has = q; place = in-tree z o f small; named = refl } in
+          record { block = frame-block f q; free = eqb-true _ _ r; has = q; inside = in-tree z o f small; named = refl } in
           subst (λ (x : ℕ). Named z ws row o (Frame f) x) k b
       go true q false r p = absurd (let c : _≡_ {A = ℕ} 0 1 = cc in omega arith)
       go false q u r p = absurd (let c : _≡_ {A = ℕ} 0 1 = cc in omega arith)
@@ -121,7 +114,7 @@ module _ (z : ℕ) (ws : List ℕ) (o : ℕ) (least : 6 ≤ z) (most : z ≤ 18)
 
   -- a claim on the answer of a put: of the block, now free, and of a refusal
   pub put-ind : (Q : Out Bool (List ℕ) → Type 0) (f : ℕ)
-      → (Given z ws o f → Q (out true (mark false ws o (f / 2 ^ o))))
+      → (HeldBlock z ws o f → Q (out true (mark false ws o (f / 2 ^ o))))
       → ((hasTree z ws (f / treeFrames z) ≡ true → heldIn ws o (f / 2 ^ o) ≡ 2 ^ o → ⊥) → Q (out false ws))
       → Q (lowerPut z ws o f)
   unfolding lowerPut
@@ -129,6 +122,6 @@ module _ (z : ℕ) (ws : List ℕ) (o : ℕ) (least : 6 ≤ z) (most : z ≤ 18)
     where
       go : (t : Bool) → hasTree z ws (f / treeFrames z) ≡ t → (u : Bool) → eqb (heldIn ws o (f / 2 ^ o)) (2 ^ o) ≡ u
           → Q (pick t (pick u (out true (mark false ws o (f / 2 ^ o))) (out false ws)) (out false ws))
-      go true q true r = given (record { block = frame-block f q; held = eqb-true _ _ r; has = q; place = in-tree z o f small })
+      go true q true r = given (record { block = frame-block f q; held = eqb-true _ _ r; has = q; inside = in-tree z o f small })
       go true q false r = refused (λ a. eqb-false _ _ r)
       go false q u r = refused (λ a b. let c : _≡_ {A = ℕ} 0 1 = cc in omega arith)

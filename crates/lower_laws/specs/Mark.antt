@@ -3,7 +3,7 @@ use mathlib.Core.Path.{_≡_, refl, sym, ap, ap₂, _∙_}
 use mathlib.Core.Bool.{Bool, true, false}
 use mathlib.Core.Logic.{⊎-elim}
 use mathlib.Core.List.{List}
-use Prim.Native.Nat.{ℕ, zero, suc, _+_, _-_, _*_, _/_, _%_, _^_, _<_, _≤_}
+use Prim.Native.Nat.{ℕ, zero, suc, _+_, _*_, _/_, _%_, _^_, _<_, _≤_}
 use native.Mathlib.Nat.{le-dest}
 use native.Mathlib.Numerals.{add-one}
 use native.Mathlib.Omega.{arith}
@@ -36,9 +36,6 @@ full-lt true n = ones-lt n
 full-lt false n = pow-pos n
 
 module _ (v : Bool) (ws : List ℕ) (q s n : ℕ) (fits : s + n ≤ 64) (here : q < length ws) where
-  w' : ℕ
-  w' = putField (getD ws q 0) s n (full v n)
-
   -- a frame of the word, and of another
   same-word : (f : ℕ) → f / 64 ≡ q → bit (setPart v ws q s n) f ≡ bitAt (putField (getD ws q 0) s n (full v n)) (f % 64)
   same-word f e = ap (λ (x : ℕ). bitAt x (f % 64)) (ap (λ (x : ℕ). getD (setPart v ws q s n) x 0) e ∙ getD-set-same ws q _ 0 here)

@@ -25,7 +25,7 @@ ones-every (suc k) x h e =
     let r : x / 2 + 1 ≡ 2 ^ k = ones-every k (x / 2) (omega arith) (omega arith) in
     rw pow-suc (omega arith)
 
-ones-zero : ones 0 ≡ 0
+pub ones-zero : ones 0 ≡ 0
 unfolding ones
 ones-zero = refl
 

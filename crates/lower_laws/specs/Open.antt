@@ -15,13 +15,14 @@ use Rattle.rules.specs.Words.{treeRows}
 use Rattle.rules.specs.Lower.{held, heldIn, hit}
 use Rattle.rules.specs.declared.Found.{Found}
 use Rattle.rules.specs.declared.Found.the-variants.{At, Nothing}
+use Rattle.policy_laws.specs.All.{both-false}
 use Rattle.lower_laws.specs.Cases.{below-or}
 use Rattle.lower_laws.specs.Power.{inside, row-block, row-first}
 use Rattle.lower_laws.specs.Held.{held-whole}
 use Rattle.lower_laws.specs.Ones.{ones-every}
 use Rattle.lower_laws.specs.Run.{held-part-of}
 use Rattle.lower_laws.specs.First.{first-none, first-at, first-skip, first-sound, first-least, first-empty}
-use Rattle.lower_laws.specs.Seek.{seekIn, seek-all, both-no}
+use Rattle.lower_laws.specs.Seek.{seekIn, seek-all}
 use Rattle.lower_laws.specs.Word.{foundOr}
 
 -- the word q has a clear bit
@@ -90,7 +91,7 @@ module _ (ws : List ℕ) (o row n q : ℕ) (h : o < 6) (p : Opened ws row n q) w
       let u : heldIn ws 6 (i / 2 ^ k) ≡ 64 = p .full (i / 2 ^ k) d' f in
       let v : heldIn ws o i ≡ 2 ^ o = held-part-of ws (i / 2 ^ k * 64) 64 (i * 2 ^ o) (2 ^ o) u (t .low) (t .high) in
       let y : 0 < 2 ^ o = pow-pos o in
-      both-no (leb (row * 64 / 2 ^ o) i) (eqb (heldIn ws o i) 0) (ne-eqb (heldIn ws o i) 0 (λ z. omega arith)))
+      both-false (leb (row * 64 / 2 ^ o) i) (eqb (heldIn ws o i) 0) (ne-eqb (heldIn ws o i) 0 (λ z. omega arith)))
       (below-or i (row * 64 / 2 ^ o))
 
   -- upward from the row in the tree of order z

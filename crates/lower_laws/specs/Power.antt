@@ -113,8 +113,8 @@ pub row-first : (w row i : ℕ) → w ≤ 6 → row ≤ i → row * 64 / 2 ^ w �
 row-first w row i h l = let m : row * 2 ^ (6 - w) ≤ i * 2 ^ (6 - w) = mul-le-mul-right (2 ^ (6 - w)) l in omega (arith, row-block w row h)
 
 -- and of the first row of tree t
-pub first-row : (z o t : ℕ) → 6 ≤ z → o ≤ z → t * 2 ^ (z - 6) * 64 / 2 ^ o ≤ t * 2 ^ (z - o)
-first-row z o t g h =
+pub tree-first : (z o t : ℕ) → 6 ≤ z → o ≤ z → t * 2 ^ (z - 6) * 64 / 2 ^ o ≤ t * 2 ^ (z - o)
+tree-first z o t g h =
     let a : t * 2 ^ (z - 6) * 64 ≡ t * 2 ^ z = mul-assoc t (2 ^ (z - 6)) 64 ∙ ap (λ (x : ℕ). t * x) (sym (tree-words z g)) in
     let b : t * 2 ^ z ≡ t * 2 ^ (z - o) * 2 ^ o = ap (λ (x : ℕ). t * x) (pow-part z o h) ∙ sym (mul-assoc t (2 ^ (z - o)) (2 ^ o)) in
     let c : t * 2 ^ (z - 6) * 64 / 2 ^ o ≡ t * 2 ^ (z - o) = ap (λ (x : ℕ). x / 2 ^ o) (a ∙ b) ∙ shl-shr (t * 2 ^ (z - o)) o in

@@ -1,5 +1,5 @@
 -- A run of whole words that is wholly free, or wholly held, word by word. Assumes nothing.
-use mathlib.Core.Path.{_≡_, refl, sym, ap, _∙_}
+use mathlib.Core.Path.{_≡_, sym, ap, _∙_}
 use mathlib.Core.Bool.{false}
 use mathlib.Core.List.{List}
 use Prim.Native.Nat.{ℕ, _+_, _-_, _*_, _^_, _<_, _≤_}
@@ -11,7 +11,7 @@ use borrow.Author.Tests.{ne-eqb}
 use Rattle.rules.specs.Lower.{bit, held}
 use Rattle.lower_laws.specs.Sum.{sum-all, sum-zero, one-at, zero-at, sum-none}
 use Rattle.lower_laws.specs.Held.{bit-le, held-whole, held-more}
-use Rattle.lower_laws.specs.Ones.{ones-none, ones-every}
+use Rattle.lower_laws.specs.Ones.{ones-none, ones-every, ones-zero}
 
 -- a part of a range that is wholly free, or wholly held
 pub free-part-of : (ws : List ℕ) (a n b k : ℕ) → held ws a n ≡ 0 → a ≤ b → b + k ≤ a + n → held ws b k ≡ 0
@@ -39,10 +39,6 @@ free-some ws at n i l h f = ne-eqb _ _ (λ z.
     let e : held ws ((at + i) * 64) 64 ≡ 64 = held-part-of ws (at * 64) (n * 64) ((at + i) * 64) 64 z (omega arith) (omega arith) in
     let q : getD ws (at + i) 0 + 1 ≡ 2 ^ 64 = ones-every 64 _ h (sym (held-whole ws (at + i) h) ∙ e) in
     f (omega arith))
-
-ones-zero : ones 0 ≡ 0
-unfolding ones
-ones-zero = refl
 
 -- one word more
 pub zero-more : (ws : List ℕ) (at i : ℕ) → held ws (at * 64) (i * 64) ≡ 0 → getD ws (at + i) 0 ≡ 0 → held ws (at * 64) ((i + 1) * 64) ≡ 0

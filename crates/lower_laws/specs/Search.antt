@@ -11,7 +11,8 @@ use Rattle.rules.specs.Words.{treeRows}
 use Rattle.rules.specs.Lower.{bit, held, heldIn, clear, hit, searchIn}
 use Rattle.rules.specs.declared.Found.{Found}
 use Rattle.rules.specs.declared.Found.the-variants.{At, Nothing}
-use Rattle.lower_laws.specs.Power.{Inside, inside, among, row-tree, first-row}
+use Rattle.policy_laws.specs.All.{both-right}
+use Rattle.lower_laws.specs.Power.{Inside, inside, among, row-tree, tree-first}
 use Rattle.lower_laws.specs.Block.{Block, block-of}
 use Rattle.lower_laws.specs.Sum.{sum-one, sum-all}
 use Rattle.lower_laws.specs.Held.{bit-le}
@@ -19,13 +20,9 @@ use Rattle.lower_laws.specs.First.{first-at, first-sound, first-empty}
 use Rattle.lower_laws.specs.Seek.{seekIn, seek-is, seek-all}
 use Rattle.lower_laws.specs.Clear.{clear-held}
 
-both-right : (a b : Bool) → both a b ≡ true → b ≡ true
-both-right true b h = h
-both-right false b h = absurd (let z : _≡_ {A = ℕ} 0 1 = cc in omega arith)
-
 -- the block j of order o is a wholly free one of the tree t
 pub record FreeIn (z : ℕ) (ws : List ℕ) (t o j : ℕ) : Type 0 where
-  pub place : Inside z o t j
+  pub inside : Inside z o t j
   pub free : heldIn ws o j ≡ 0
 
 module _ (z : ℕ) (ws : List ℕ) (tree o row : ℕ) where
@@ -36,7 +33,7 @@ module _ (z : ℕ) (ws : List ℕ) (tree o row : ℕ) where
       named : (from : ℕ) → firstIn (hit ws o from) (tree * 2 ^ (z - o)) (2 ^ (z - o)) ≡ At j → FreeIn z ws tree o j
       named from q =
           let s = first-sound (hit ws o from) (tree * 2 ^ (z - o)) (2 ^ (z - o)) j q in
-          record { place = inside z o tree j h (s .low) (s .high); free = eqb-true (heldIn ws o j) 0 (both-right (leb from j) (eqb (heldIn ws o j) 0) (s .passed)) }
+          record { inside = inside z o tree j h (s .low) (s .high); free = eqb-true (heldIn ws o j) 0 (both-right (leb from j) (eqb (heldIn ws o j) 0) (s .passed)) }
 
       pass : (x : Found) → firstIn (hit ws o (row * 64 / 2 ^ o)) (tree * 2 ^ (z - o)) (2 ^ (z - o)) ≡ x → FreeIn z ws tree o j
       pass (At k) q = named (row * 64 / 2 ^ o) (q ∙ (simp q at e))
@@ -100,7 +97,7 @@ module _ (z : ℕ) (ws : List ℕ) (row o : ℕ) (least : 6 ≤ z) (h : o ≤ z)
     unfolding searchIn
     seek-round y e r =
         let t : ℕ = row / treeRows z in
-        let a : row / treeRows z * treeRows z * 64 / 2 ^ o ≤ row / treeRows z * 2 ^ (z - o) = first-row z o (row / treeRows z) least h in
+        let a : row / treeRows z * treeRows z * 64 / 2 ^ o ≤ row / treeRows z * 2 ^ (z - o) = tree-first z o (row / treeRows z) least h in
         let b : seekIn ws z o (row / treeRows z) (row / treeRows z * treeRows z * 64 / 2 ^ o) ≡ seekIn ws z o (row / treeRows z) 0 = seek-all ws z o (row / treeRows z) _ a in
         let c : firstIn (hit ws o (row * 64 / 2 ^ o)) (row / treeRows z * 2 ^ (z - o)) (2 ^ (z - o)) ≡ Nothing = is-seek (row * 64 / 2 ^ o) ∙ sym l ∙ e in
         r ∙ b ∙ sym (is-seek 0) ∙ sym (simp c)

@@ -8,17 +8,14 @@ use native.Mathlib.Omega.{arith}
 use lib.Dec.{eqb, leb, ltb}
 use lib.Pow.{pow-pos, shr-shr}
 use borrow.Author.Tests.{lt-leb, le-leb, ne-eqb, eqb-true, ltb-true, ltb-false}
-use Rattle.rules.specs.Base.{pick, both, either, orFound, firstIn}
+use Rattle.rules.specs.Base.{pick, either, orFound, firstIn}
 use Rattle.rules.specs.Lower.{heldIn, hit}
 use Rattle.rules.specs.declared.Found.{Found}
 use Rattle.rules.specs.declared.Found.the-variants.{At, Nothing}
+use Rattle.policy_laws.specs.All.{both-false}
 use Rattle.lower_laws.specs.Power.{inside, row-up, row-first}
 use Rattle.lower_laws.specs.Run.{held-part-of}
 use Rattle.lower_laws.specs.First.{first-none, first-half, first-leaf, first-ext}
-
-pub both-no : (a b : Bool) → b ≡ false → both a b ≡ false
-both-no true b e = e
-both-no false b e = refl
 
 -- the first wholly free block of order w, not before the block `from`, in the block i of order o
 unfoldable pub seekIn : List ℕ → ℕ → ℕ → ℕ → ℕ → Found
@@ -49,7 +46,7 @@ held-none ws o w i from h e =
     let n = inside o w i j h l m in
     let q : heldIn ws w j ≡ 2 ^ w = held-part-of ws (i * 2 ^ o) (2 ^ o) (j * 2 ^ w) (2 ^ w) e (n .low) (n .high) in
     let p : 0 < 2 ^ w = pow-pos w in
-    both-no (leb from j) (eqb (heldIn ws w j) 0) (ne-eqb (heldIn ws w j) 0 (λ z. omega arith)))
+    both-false (leb from j) (eqb (heldIn ws w j) 0) (ne-eqb (heldIn ws w j) 0 (λ z. omega arith)))
 
 -- nor has one that lies before the row's block
 before-none : (ws : List ℕ) (o w i from : ℕ) → i < from / 2 ^ (o - w) → seekIn ws o w i from ≡ Nothing

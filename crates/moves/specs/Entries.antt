@@ -14,7 +14,7 @@ use Rattle.rules.specs.declared.Kind.{Kind}
 use Rattle.rules.specs.declared.Kind.the-variants.{Invalid, Steal, Demote, Match}
 use Rattle.hand.specs.Hand.{here, holders, Hand}
 use Rattle.word_laws.specs.Sizes.{Size}
-use Rattle.word_laws.specs.Words.{bit-true, bit-le}
+use Rattle.word_laws.specs.Words.{bit-true, bitOf-le}
 use Rattle.policy_laws.specs.Kinds.{steal-kind, demote-kind, match-kind}
 use Rattle.policy_laws.specs.Accepted.{accepted-says, back-good}
 use Rattle.moves.specs.Here.{here-same, here-zero, here-add, here-part}
@@ -39,10 +39,10 @@ class-after P c k free own dflt = go (policy c k (c .default) free) refl
 module _ (c : Config) (sz : Size (c .order)) (ts ls bs : List ℕ) (n h : ℕ → ℕ) (H : Hand c ts ls bs n h) (t : ℕ) (lt : t < trees c) where
   -- a reservation in hand: the entry is reserved, and no local holds the tree
   pub hand-reserved : 0 < h t → entryAt ts t .reserved ≡ true
-  hand-reserved pos = bit-true (entryAt ts t .reserved) (omega (arith, H .one t lt, bit-le (entryAt ts t .reserved)))
+  hand-reserved pos = bit-true (entryAt ts t .reserved) (omega (arith, H .one t lt, bitOf-le (entryAt ts t .reserved)))
 
   pub hand-alone : 0 < h t → holders (c .order) t ls ≡ 0
-  hand-alone pos = omega (arith, H .one t lt, bit-le (entryAt ts t .reserved))
+  hand-alone pos = omega (arith, H .one t lt, bitOf-le (entryAt ts t .reserved))
 
   -- an unreserved entry has no holder
   pub free-alone : entryAt ts t .reserved ≡ false → holders (c .order) t ls ≡ 0

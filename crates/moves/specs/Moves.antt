@@ -65,9 +65,6 @@ module _ (c : Config) (sz : Size (c .order)) (ts ls bs : List ℕ) (n h : ℕ �
         past = H .past;
       }
     where
-      ts' : List ℕ
-      ts' = set ts t (treeWord e)
-
       same : (i : ℕ) → i ≡ t → entryAt (set ts t (treeWord e)) i ≡ e
       same i d =
           ap (λ (x : ℕ). entryAt (set ts t (treeWord e)) x) d
@@ -149,12 +146,12 @@ module _ (c : Config) (sz : Size (c .order)) (ts ls bs : List ℕ) (n h : ℕ �
       at-absent k p (no d) = rw (other k d) (H .absent k (rw (other k d) at p))
 
   -- ---- a block of tree t marked
-  module _ (o j t : ℕ) (b : Block bs o j) (place : Inside (c .order) o t j) where
+  module _ (o j t : ℕ) (b : Block bs o j) (within : Inside (c .order) o t j) where
     -- no other tree changes
     others : (v : Bool) (i : ℕ) → i ≢ t → held (mark v bs o j) (i * treeFrames (c .order)) (treeFrames (c .order)) ≡ held bs (i * treeFrames (c .order)) (treeFrames (c .order))
     others v i ne = by-side i t ne
-        (λ l. count-below v bs _ _ _ (marked v bs o j b) (i * treeFrames (c .order)) (treeFrames (c .order)) (omega (arith, place .low, next-tree (c .order) sz i t l)))
-        (λ l. count-above v bs _ _ _ (marked v bs o j b) (i * treeFrames (c .order)) (treeFrames (c .order)) (omega (arith, place .high, next-tree (c .order) sz t i l)))
+        (λ l. count-below v bs _ _ _ (marked v bs o j b) (i * treeFrames (c .order)) (treeFrames (c .order)) (omega (arith, within .low, next-tree (c .order) sz i t l)))
+        (λ l. count-above v bs _ _ _ (marked v bs o j b) (i * treeFrames (c .order)) (treeFrames (c .order)) (omega (arith, within .high, next-tree (c .order) sz t i l)))
 
     -- frames at and past F stay held
     past-marked : (v : Bool) → j * 2 ^ o + 2 ^ o ≤ c .frames → held (mark v bs o j) (c .frames) (length (mark v bs o j) * 64 - c .frames) ≡ length (mark v bs o j) * 64 - c .frames
@@ -192,7 +189,7 @@ module _ (c : Config) (sz : Size (c .order)) (ts ls bs : List ℕ) (n h : ℕ �
         go : (i : ℕ) → Dec (i ≡ t) → m i + held (mark true bs o j) (i * treeFrames (c .order)) (treeFrames (c .order)) ≡ n i + held bs (i * treeFrames (c .order)) (treeFrames (c .order))
         go i (yes d) =
             let q : i * treeFrames (c .order) ≡ t * treeFrames (c .order) = ap (λ (x : ℕ). x * treeFrames (c .order)) d in
-            omega (arith, frames i, here-same t (2 ^ o) i d, e, count-held bs _ _ _ M, count-around true bs _ _ _ M (i * treeFrames (c .order)) (treeFrames (c .order)) (omega (arith, place .low, q)) (omega (arith, place .high, q)))
+            omega (arith, frames i, here-same t (2 ^ o) i d, e, count-held bs _ _ _ M, count-around true bs _ _ _ M (i * treeFrames (c .order)) (treeFrames (c .order)) (omega (arith, within .low, q)) (omega (arith, within .high, q)))
         go i (no d) = omega (arith, frames i, here-other t (2 ^ o) i d, others true i d)
 
     -- a wholly held block freed: its frames come to hand
@@ -206,5 +203,5 @@ module _ (c : Config) (sz : Size (c .order)) (ts ls bs : List ℕ) (n h : ℕ �
         go : (i : ℕ) → Dec (i ≡ t) → m i + held (mark false bs o j) (i * treeFrames (c .order)) (treeFrames (c .order)) ≡ n i + held bs (i * treeFrames (c .order)) (treeFrames (c .order))
         go i (yes d) =
             let q : i * treeFrames (c .order) ≡ t * treeFrames (c .order) = ap (λ (x : ℕ). x * treeFrames (c .order)) d in
-            omega (arith, frames i, here-same t (2 ^ o) i d, e, count-free bs _ _ _ M, count-around false bs _ _ _ M (i * treeFrames (c .order)) (treeFrames (c .order)) (omega (arith, place .low, q)) (omega (arith, place .high, q)))
+            omega (arith, frames i, here-same t (2 ^ o) i d, e, count-free bs _ _ _ M, count-around false bs _ _ _ M (i * treeFrames (c .order)) (treeFrames (c .order)) (omega (arith, within .low, q)) (omega (arith, within .high, q)))
         go i (no d) = omega (arith, frames i, here-other t (2 ^ o) i d, others false i d)

@@ -1,17 +1,17 @@
 -- The computed test of header and table says what 01 says, both ways; what an accepted table gives. Assumes nothing.
 use mathlib.Core.Path.{_≡_, sym, _∙_}
 use mathlib.Core.Bool.{true}
-use Prim.Native.Nat.{ℕ, _+_, _-_, _*_, _/_, _%_, _^_, _<_, _≤_}
-use native.Mathlib.Nat.{mod-eq-of-lt, div-lt-iff-lt-mul, le-div-iff-mul-le}
+use Prim.Native.Nat.{ℕ, _+_, _*_, _/_, _%_, _^_, _<_, _≤_}
+use native.Mathlib.Nat.{mod-eq-of-lt}
 use native.Mathlib.Omega.{arith}
 use lib.Dec.{eqb, leb, ltb}
 use lib.ListN.{getD}
-use lib.Pow.{pow-pos}
 use borrow.Author.Tests.{leb-true, le-leb, ltb-true, ltb-false, lt-ltb, eq-eqb, ne-eqb, eqb-true, eqb-false}
 use Rattle.rules.specs.Base.{pick, both, allBelow}
-use Rattle.rules.specs.Words.{Config, treeFrames, treeCount, trees, configured, localsOf}
+use Rattle.rules.specs.Words.{Config, treeFrames, trees, configured, localsOf}
 use Rattle.rules.specs.Policy.{pairOf, kindOf, cutOf, lowOf, highOf, kindAt, good, pairFormed, pairAccepted, tableFormed, implies, rulesAt, tableRules, framesAccepted, placesAccepted, defaultAccepted, accepted, Configured, Good, Accepts}
 use Rattle.policy_laws.specs.All.{by, both-left, both-right, both-true, implies-at, implies-make, all-at, all-make}
+use Rattle.policy_laws.specs.Count.{count-some, count-most}
 use Rattle.policy_laws.specs.Kinds.{good-true, good-fact, configured-true, configured-fact, unconfigured-fact}
 
 -- a pair's word in 01's words, kind by kind
@@ -237,16 +237,11 @@ module _ (c : Config) where
 module _ (c : Config) (a : AcceptedConfig c) where
   -- n is at least 1
   pub trees-some : 1 ≤ trees c
-  unfolding treeCount
-  trees-some = le-div-iff-mul-le {k = treeFrames (c .order)} {x = 1} {y = c .frames + (treeFrames (c .order) - 1)} (pow-pos (c .order)) .1 (omega (arith, a .some, pow-pos (c .order)))
+  trees-some = count-some (c .order) (c .frames) (a .some)
 
   -- n is at most 1,024
   pub trees-most : trees c ≤ 1024
-  unfolding treeCount
-  trees-most =
-      let l : (c .frames + (treeFrames (c .order) - 1)) / treeFrames (c .order) < 1025
-      = div-lt-iff-lt-mul {k = treeFrames (c .order)} {x = c .frames + (treeFrames (c .order) - 1)} {y = 1025} (pow-pos (c .order)) .1 (omega (arith, a .most, pow-pos (c .order))) in
-      omega arith
+  trees-most = count-most (c .order) (c .frames) (a .most)
 
   -- a class has at most 32 locals, configured or not
   pub locals-most : (k : ℕ) → k < 8 → localsOf (c .places) k ≤ 32

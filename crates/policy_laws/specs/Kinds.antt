@@ -26,8 +26,8 @@ unfolding kindOf
 kind-lt w = omega arith
 
 -- the rating of a Match
-unfoldable pub ratingOf : ℕ → ℕ → ℕ
-ratingOf w free = pick (leb (cutOf w) free) (highOf w) (lowOf w)
+unfoldable pub ratingAt : ℕ → ℕ → ℕ
+ratingAt w free = pick (leb (cutOf w) free) (highOf w) (lowOf w)
 
 -- the policy's answer of a word by its kind
 module _ (w free : ℕ) where
@@ -43,8 +43,8 @@ module _ (w free : ℕ) where
   unfolding policyOf
   demote-of h = rw h
 
-  match-of : kindOf w ≡ 3 → policyOf w free ≡ Match (ratingOf w free)
-  unfolding policyOf ratingOf
+  match-of : kindOf w ≡ 3 → policyOf w free ≡ Match (ratingAt w free)
+  unfolding policyOf ratingAt
   match-of h = rw h (by (leb (cutOf w) free) (λ e. rw e) (λ e. rw e))
 
   -- by the four kinds
@@ -84,7 +84,7 @@ module _ (c : Config) (o e : ℕ) where
   demote-kind free h = sym (policy-number free) ∙ ap kindNumber h
 
   -- Match, with the rating at the free argument, exactly if the kind is 3
-  pub policy-match : (free : ℕ) → kindAt c o e ≡ 3 → policy c o e free ≡ Match (ratingOf (pairOf c o e) free)
+  pub policy-match : (free : ℕ) → kindAt c o e ≡ 3 → policy c o e free ≡ Match (ratingAt (pairOf c o e) free)
   unfolding policy kindAt
   policy-match free = match-of (pairOf c o e) free
 

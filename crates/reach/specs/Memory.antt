@@ -31,12 +31,13 @@ use Rattle.policy_laws.specs.All.{true-false}
 use Rattle.hand.specs.Hand.{holds, holders, Kept}
 use Rattle.step_laws.specs.Steps.{ifte-ind, from-ind}
 use Rattle.step_laws.specs.Answers.{unless-ind, standing-ind}
+use Rattle.step_laws.specs.Checked.{refusal-checked}
 use Rattle.moves.specs.Here.{holds-none}
 use Rattle.keeps.specs.Fine.{Asks}
-use Rattle.keeps_calls.specs.Asked.{accepts, asks}
+use Rattle.keeps_calls.specs.Asked.{asks}
 use Rattle.keeps_calls.specs.Calls.{get-keeps, drain-keeps}
 use Rattle.standing_laws.specs.Standing.{TreeWords, test-kept, kept-test}
-use Rattle.reach.specs.Reach.{Lends, OwnAsked, Reachable, Unreachable}
+use Rattle.reach.specs.Reach.{Lends, OwnAsked, Reachable, ReachedBy, Unreachable}
 use Rattle.reach.specs.Ends.{Ends, ends-map, else-ends}
 use Rattle.reach.specs.Walks.{NoTree, searchAndSteal-ends, searchAndReserve-ends}
 use Rattle.reach.specs.Own.{Spent, own-ends}
@@ -50,26 +51,23 @@ not-both c ts ls k given U (Reachable.own i a p pos) = omega (arith, pos, U .own
 not-both c ts ls k given U (Reachable.topUp i a p pos) = omega (arith, pos, U .own i a p .1)
 
 module _ (c : Config) (sz : Size (c .order)) (q : Request) (A : Asks c q Any) (single : q .order ≡ 0) (ts ls bs : List ℕ) (K : Kept c ts ls bs) where
-  abbrev Reach : Type 0
-  Reach = Reachable c ts ls (q .class) (q .local)
-
   -- the own local, where it is asked for, cannot pay
   abbrev OwnSpent : Type 0
   OwnSpent = (i : ℕ) → OwnAsked c (q .class) (q .local) i → Spent c ts ls (slot (c .places) (q .class) i)
 
   -- own local and searches
-  trees-ends : (g : Given) → q .local ≡ g → (i k : ℕ) → Ends Reach (NoTree c ts (q .class) × OwnSpent) ts ls bs (searchTrees c q g (st ts ls bs i k))
+  trees-ends : (g : Given) → q .local ≡ g → (i k : ℕ) → Ends (ReachedBy c ts ls q) (NoTree c ts (q .class) × OwnSpent) ts ls bs (searchTrees c q g (st ts ls bs i k))
   unfolding searchTrees getReserving
   trees-ends (Given.Local x) e i k =
-      ifte-ind (Ends Reach (NoTree c ts (q .class) × OwnSpent) ts ls bs) (ltb (localsOf (c .places) (q .class)) (trees c)) _ _
+      ifte-ind (Ends (ReachedBy c ts ls q) (NoTree c ts (q .class) × OwnSpent) ts ls bs) (ltb (localsOf (c .places) (q .class)) (trees c)) _ _
       (λ t.
       let lt : localsOf (c .places) (q .class) < trees c = ltb-true _ _ t in
-      from-ind (Ends Reach (Spent c ts ls j) ts ls bs) (Ends Reach (NoTree c ts (q .class) × OwnSpent) ts ls bs) (getLocal 1 c q Any j (st ts ls bs i k))
-      (own-ends c sz q A single ts ls bs K Reach (Spent c ts ls j) j (λ p pos. Reachable.own x (e, lt) p pos) (λ p more. Reachable.topUp x (e, lt) p more) (λ s. s) i k)
+      from-ind (Ends (ReachedBy c ts ls q) (Spent c ts ls j) ts ls bs) (Ends (ReachedBy c ts ls q) (NoTree c ts (q .class) × OwnSpent) ts ls bs) (getLocal 1 c q Any j (st ts ls bs i k))
+      (own-ends c sz q A single ts ls bs K (ReachedBy c ts ls q) (Spent c ts ls j) j (λ p pos. Reachable.own x (e, lt) p pos) (λ p more. Reachable.topUp x (e, lt) p more) (λ s. s) i k)
       (λ f y s r. r) (λ s r. r) _ _
       (λ s E. next (startTree c q (Given.Local x)) s (E .0) (E .1))
       (λ y s E. next y s (E .0) (E .1)))
-      (λ f. ends-map Reach ts ls bs (NoTree c ts (q .class)) (NoTree c ts (q .class) × OwnSpent) (searchAndSteal c q (startTree c q (Given.Local x)) (st ts ls bs i k))
+      (λ f. ends-map (ReachedBy c ts ls q) ts ls bs (NoTree c ts (q .class)) (NoTree c ts (q .class) × OwnSpent) (searchAndSteal c q (startTree c q (Given.Local x)) (st ts ls bs i k))
       (λ n. (n, λ y a. absurd (let h : trees c ≤ localsOf (c .places) (q .class) = ltb-false _ _ f in omega (arith, h, a .1))))
       (searchAndSteal-ends c sz q A single ts ls bs K (startTree c q (Given.Local x)) i k))
     where
@@ -79,26 +77,26 @@ module _ (c : Config) (sz : Size (c .order)) (q : Request) (A : Asks c q Any) (s
       same : (y : ℕ) → q .local ≡ Given.Local y → x ≡ y
       same y h = (let d : Given.Local x ≡ Given.Local y = sym e ∙ h in cc)
 
-      next : (start : ℕ) (s : State) → Spent c ts ls j → s ≡ st ts ls bs (s .looks) (s .tries) → Ends Reach (NoTree c ts (q .class) × OwnSpent) ts ls bs (searchAndReserve c q j start s)
+      next : (start : ℕ) (s : State) → Spent c ts ls j → s ≡ st ts ls bs (s .looks) (s .tries) → Ends (ReachedBy c ts ls q) (NoTree c ts (q .class) × OwnSpent) ts ls bs (searchAndReserve c q j start s)
       next start s sp h =
-          subst (λ (v : State). Ends Reach (NoTree c ts (q .class) × OwnSpent) ts ls bs (searchAndReserve c q j start v)) (sym h)
-          (ends-map Reach ts ls bs (NoTree c ts (q .class)) (NoTree c ts (q .class) × OwnSpent) (searchAndReserve c q j start (st ts ls bs (s .looks) (s .tries)))
+          subst (λ (v : State). Ends (ReachedBy c ts ls q) (NoTree c ts (q .class) × OwnSpent) ts ls bs (searchAndReserve c q j start v)) (sym h)
+          (ends-map (ReachedBy c ts ls q) ts ls bs (NoTree c ts (q .class)) (NoTree c ts (q .class) × OwnSpent) (searchAndReserve c q j start (st ts ls bs (s .looks) (s .tries)))
           (λ n. (n, λ y a. subst (λ (v : ℕ). Spent c ts ls (slot (c .places) (q .class) v)) (same y (a .0)) sp))
           (searchAndReserve-ends c sz q A single ts ls bs K j start (s .looks) (s .tries)))
   trees-ends Given.Nothing e i k =
-      ends-map Reach ts ls bs (NoTree c ts (q .class)) (NoTree c ts (q .class) × OwnSpent) (searchAndSteal c q (startTree c q Given.Nothing) (st ts ls bs i k))
+      ends-map (ReachedBy c ts ls q) ts ls bs (NoTree c ts (q .class)) (NoTree c ts (q .class) × OwnSpent) (searchAndSteal c q (startTree c q Given.Nothing) (st ts ls bs i k))
       (λ n. (n, λ y a. absurd (let d : Given.Nothing ≡ Given.Local y = sym e ∙ a .0 in let z : _≡_ {A = ℕ} 0 1 = cc in omega arith)))
       (searchAndSteal-ends c sz q A single ts ls bs K (startTree c q Given.Nothing) i k)
 
   -- all routes
-  pub routes-ends : (i k : ℕ) → Ends Reach (Unreachable c ts ls (q .class) (q .local)) ts ls bs (routes c q Any (st ts ls bs i k))
+  pub routes-ends : (i k : ℕ) → Ends (ReachedBy c ts ls q) (Unreachable c ts ls (q .class) (q .local)) ts ls bs (routes c q Any (st ts ls bs i k))
   unfolding routes getAny lastRoutes
   routes-ends i k =
-      else-ends Reach ts ls bs (NoTree c ts (q .class) × OwnSpent) (Unreachable c ts ls (q .class) (q .local)) (searchTrees c q (q .local) (st ts ls bs i k)) (lastRoutes c q Any)
+      else-ends (ReachedBy c ts ls q) ts ls bs (NoTree c ts (q .class) × OwnSpent) (Unreachable c ts ls (q .class) (q .local)) (searchTrees c q (q .local) (st ts ls bs i k)) (lastRoutes c q Any)
       (trees-ends (q .local) refl i k) (λ T l t.
-      else-ends Reach ts ls bs (NoneSteals c sz q A single ts ls bs K) (Unreachable c ts ls (q .class) (q .local)) (stealLocal c q Any (st ts ls bs l t)) (demoteLocal c q Any)
+      else-ends (ReachedBy c ts ls q) ts ls bs (NoneSteals c sz q A single ts ls bs K) (Unreachable c ts ls (q .class) (q .local)) (stealLocal c q Any (st ts ls bs l t)) (demoteLocal c q Any)
       (stealLocal-ends c sz q A single ts ls bs K l t) (λ S u v.
-      ends-map Reach ts ls bs (NoneMoves c sz q A single ts ls bs K) (Unreachable c ts ls (q .class) (q .local)) (demoteLocal c q Any (st ts ls bs u v))
+      ends-map (ReachedBy c ts ls q) ts ls bs (NoneMoves c sz q A single ts ls bs K) (Unreachable c ts ls (q .class) (q .local)) (demoteLocal c q Any (st ts ls bs u v))
       (λ M. record { entries = T .0; locals = λ e x le lx L p. empty S M e le L x lx p; own = T .1 })
       (demoteLocal-ends c sz q A single ts ls bs K u v)))
     where
@@ -110,16 +108,16 @@ module _ (c : Config) (sz : Size (c .order)) (q : Request) (A : Asks c q Any) (s
 -- ---- the call
 
 -- Memory, nothing is reachable, and no word has changed; or another answer, and something is
-abbrev Settled : Config → ℕ → Given → List ℕ → List ℕ → List ℕ → Told → Type 0
-Settled c k given t l b r =
+abbrev Decided : Config → ℕ → Given → List ℕ → List ℕ → List ℕ → Told → Type 0
+Decided c k given t l b r =
     ((r .number ≡ 7) × (Unreachable c t l k given × ((r .trees ≡ t) × ((r .locals ≡ l) × (r .bits ≡ b))))) ⊎ ((r .number ≢ 7) × Reachable c t l k given)
 
-close-settled : (c : Config) (k : ℕ) (given : Given) (t l b : List ℕ) (w : Way) → Ends (Reachable c t l k given) (Unreachable c t l k given) t l b w → Settled c k given t l b (close w)
+close-decided : (c : Config) (k : ℕ) (given : Given) (t l b : List ℕ) (w : Way) → Ends (Reachable c t l k given) (Unreachable c t l k given) t l b w → Decided c k given t l b (close w)
 unfolding close
-close-settled c k given t l b (out (Got.Done f x) s) E = inr (λ n. omega (arith, n), E)
-close-settled c k given t l b (out Got.Missed s) E = inl (refl, (E .0, (ap (λ (v : State). v .trees) (E .1), (ap (λ (v : State). v .locals) (E .1), ap (λ (v : State). v .bits) (E .1)))))
-close-settled c k given t l b (out (Got.MissedAt x) s) E = inl (refl, (E .0, (ap (λ (v : State). v .trees) (E .1), (ap (λ (v : State). v .locals) (E .1), ap (λ (v : State). v .bits) (E .1)))))
-close-settled c k given t l b (out Got.Stuck s) E = inr (λ n. omega (arith, n), E)
+close-decided c k given t l b (out (Got.Done f x) s) E = inr (λ n. omega (arith, n), E)
+close-decided c k given t l b (out Got.Missed s) E = inl (refl, (E .0, (ap (λ (v : State). v .trees) (E .1), (ap (λ (v : State). v .locals) (E .1), ap (λ (v : State). v .bits) (E .1)))))
+close-decided c k given t l b (out (Got.MissedAt x) s) E = inl (refl, (E .0, (ap (λ (v : State). v .trees) (E .1), (ap (λ (v : State). v .locals) (E .1), ap (λ (v : State). v .bits) (E .1)))))
+close-decided c k given t l b (out Got.Stuck s) E = inr (λ n. omega (arith, n), E)
 
 -- on words that pass the state test, tree words being words of 32 bits
 module _ (c : Config) (sz : Size (c .order)) (t l b : List ℕ) (w : TreeWords t) (S : standing c t l b ≡ true) (q : Request) (single : q .order ≡ 0) (fit : refusal c q 0 ≡ 0) where
@@ -127,30 +125,30 @@ module _ (c : Config) (sz : Size (c .order)) (t l b : List ℕ) (w : TreeWords t
   K : Kept c t l b
   K = test-kept c sz t l b w S
 
-  settled : Settled c (q .class) (q .local) t l b (get c q Any t l b)
+  decided : Decided c (q .class) (q .local) t l b (get c q Any t l b)
   unfolding get frameOf
-  settled =
-      standing-ind (Settled c (q .class) (q .local) t l b) c (fresh t l b) _
-      (λ _. unless-ind (Settled c (q .class) (q .local) t l b) (refusal c q 0) (fresh t l b) _
+  decided =
+      standing-ind (Decided c (q .class) (q .local) t l b) c (fresh t l b) _
+      (λ _. unless-ind (Decided c (q .class) (q .local) t l b) (refusal c q 0) (fresh t l b) _
       (λ n e. absurd (omega (arith, e, fit)))
-      (λ _. close-settled c (q .class) (q .local) t l b (routes c q Any (fresh t l b)) (routes-ends c sz q (asks c q Any (accepts c q 0 fit)) single t l b K 0 0)))
+      (λ _. close-decided c (q .class) (q .local) t l b (routes c q Any (fresh t l b)) (routes-ends c sz q (asks c q Any (refusal-checked c q 0 fit)) single t l b K 0 0)))
       (λ f. true-false S f)
 
   -- refused with Memory exactly if nothing reachable has a free frame
   pub memory-exactly : (get c q Any t l b .number ≡ 7 → Unreachable c t l (q .class) (q .local)) × (Unreachable c t l (q .class) (q .local) → get c q Any t l b .number ≡ 7)
-  memory-exactly = ((λ n. ⊎-elim (λ x. x .1 .0) (λ x. absurd (x .0 n)) settled), (λ U. ⊎-elim (λ x. x .0) (λ x. absurd (not-both c t l (q .class) (q .local) U (x .1))) settled))
+  memory-exactly = ((λ n. ⊎-elim (λ x. x .1 .0) (λ x. absurd (x .0 n)) decided), (λ U. ⊎-elim (λ x. x .0) (λ x. absurd (not-both c t l (q .class) (q .local) U (x .1))) decided))
 
   -- Done exactly if something reachable has one
   pub done-exactly : (get c q Any t l b .number ≡ 0 → Reachable c t l (q .class) (q .local)) × (Reachable c t l (q .class) (q .local) → get c q Any t l b .number ≡ 0)
   unfolding frameOf
   done-exactly = (
-    (λ n. ⊎-elim (λ x. absurd (omega (arith, n, x .0))) (λ x. x .1) settled),
+    (λ n. ⊎-elim (λ x. absurd (omega (arith, n, x .0))) (λ x. x .1) decided),
     (λ R. ⊎-elim (λ n. n) (λ n. absurd (not-both c t l (q .class) (q .local) (memory-exactly .0 n) R)) (get-keeps c t l b sz S K q Any fit .number)),
   )
 
   -- a get of one frame that is refused with Memory changes no word
   pub memory-unchanged : get c q Any t l b .number ≡ 7 → (get c q Any t l b .trees ≡ t) × ((get c q Any t l b .locals ≡ l) × (get c q Any t l b .bits ≡ b))
-  memory-unchanged n = ⊎-elim (λ x. x .1 .1) (λ x. absurd (x .0 n)) settled
+  memory-unchanged n = ⊎-elim (λ x. x .1 .1) (λ x. absurd (x .0 n)) decided
 
 -- ---- directly after a drain
 

@@ -20,7 +20,7 @@ use Rattle.ways.specs.Standing.{treeOn}
 use Rattle.ways.specs.Locals.{takeBy, topBy, topUp, getLocal}
 use Rattle.lower_laws.specs.Cases.{below-or}
 use Rattle.word_laws.specs.Sizes.{Size, frames-le}
-use Rattle.word_laws.specs.Words.{row-lt, present-lt, bit-true, bit-le}
+use Rattle.word_laws.specs.Words.{row-lt, present-lt, bit-true, bitOf-le}
 use Rattle.policy_laws.specs.All.{true-false}
 use Rattle.hand.specs.Hand.{Kept}
 use Rattle.step_laws.specs.Steps.{ifte-ind, held-ind, found-ind, sync-ind, put-ind}
@@ -52,7 +52,7 @@ module _ (c : Config) (sz : Size (c .order)) (q : Request) (A : Asks c q Any) (s
   on-reserved : localAt ls j .present ≡ true → entryAt ts (treeOn (c .order) (localAt ls j)) .reserved ≡ true
   on-reserved p =
       bit-true (entryAt ts (treeOn (c .order) (localAt ls j)) .reserved)
-      (omega (arith, K .one (treeOn (c .order) (localAt ls j)) (K .inside j p), on-holds (c .order) (treeOn (c .order) (localAt ls j)) ls j p refl, bit-le (entryAt ts (treeOn (c .order) (localAt ls j)) .reserved)))
+      (omega (arith, K .one (treeOn (c .order) (localAt ls j)) (K .inside j p), on-holds (c .order) (treeOn (c .order) (localAt ls j)) ls j p refl, bitOf-le (entryAt ts (treeOn (c .order) (localAt ls j)) .reserved)))
 
   -- an empty one is topped up
   top-ends : localAt ls j .present ≡ true → localAt ls j .free ≡ 0 → (Spent c ts ls j → N) → (i k : ℕ)

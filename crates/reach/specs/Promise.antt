@@ -1,5 +1,5 @@
 -- The same of every answer that the promise of `get` allows. Assumes nothing.
-use mathlib.Core.Path.{_≡_, refl, sym, ap, _∙_}
+use mathlib.Core.Path.{_≡_, sym, ap, _∙_}
 use mathlib.Core.Bool.{true}
 use mathlib.Core.List.{List}
 use Prim.Native.Nat.{ℕ}
@@ -18,29 +18,16 @@ use Rattle.ways.specs.Standing.{standing}
 use Rattle.ways.specs.Calls.{Told, numberOf, tellGet, refusal}
 use Rattle.ways.specs.Promises.{Words, GetPromise}
 use Rattle.word_laws.specs.Sizes.{size-eleven}
+use Rattle.complete.specs.Complete.{same-refusal}
 use Rattle.standing_laws.specs.Standing.{TreeWords}
 use Rattle.reach.specs.Reach.{Unreachable}
 use Rattle.reach.specs.Memory.{memory-exactly}
 
 -- 7 is Memory's number alone
-is-memory : (x : Refusal) → numberOf x ≡ 7 → x ≡ Refusal.Memory
-unfolding numberOf
-is-memory Refusal.Broken e = absurd (omega arith)
-is-memory Refusal.Order e = absurd (omega arith)
-is-memory Refusal.Bounds e = absurd (omega arith)
-is-memory Refusal.Misaligned e = absurd (omega arith)
-is-memory Refusal.Class e = absurd (omega arith)
-is-memory Refusal.Local e = absurd (omega arith)
-is-memory Refusal.Memory e = refl
-is-memory Refusal.NotHeld e = absurd (omega arith)
-is-memory Refusal.Stuck e = absurd (omega arith)
-is-memory Refusal.Config e = absurd (omega arith)
-is-memory Refusal.Rows e = absurd (omega arith)
-
 told-memory : (g : Granted) (s : State) → tellGet g s .number ≡ 7 → g ≡ Granted.Refused Refusal.Memory
-unfolding tellGet
+unfolding tellGet numberOf
 told-memory (Granted.Done f k) s e = absurd (omega arith)
-told-memory (Granted.Refused x) s e = ap Granted.Refused (is-memory x e)
+told-memory (Granted.Refused x) s e = ap Granted.Refused (same-refusal x Refusal.Memory e)
 
 memory-told : (g : Granted) (s : State) → g ≡ Granted.Refused Refusal.Memory → tellGet g s .number ≡ 7
 unfolding tellGet numberOf

@@ -8,6 +8,7 @@ use Rattle.rules.specs.Words.{Config, trees, localsOf, slot, entryAt, localAt}
 use Rattle.rules.specs.Policy.{kindAt}
 use Rattle.rules.specs.declared.Given.{Given}
 use Rattle.rules.specs.declared.Given.the-variants as Given
+use Rattle.rules.specs.declared.Request.{Request}
 use Rattle.ways.specs.Standing.{treeOn}
 
 -- class k may use a frame of a local of class e: its kind is Steal or Match, or e is another class of kind Demote
@@ -28,6 +29,10 @@ pub data Reachable (c : Config) (ts ls : List ℕ) (k : ℕ) (given : Given) : T
   own : (i : ℕ) → OwnAsked c k given i → localAt ls (slot (c .places) k i) .present ≡ true → 0 < localAt ls (slot (c .places) k i) .free → Reachable c ts ls k given
   -- in the entry of the own local's tree, if it has more than one
   topUp : (i : ℕ) → OwnAsked c k given i → localAt ls (slot (c .places) k i) .present ≡ true → 1 < entryAt ts (treeOn (c .order) (localAt ls (slot (c .places) k i))) .free → Reachable c ts ls k given
+
+-- by the request q
+abbrev pub ReachedBy : Config → List ℕ → List ℕ → Request → Type 0
+ReachedBy c ts ls q = Reachable c ts ls (q .class) (q .local)
 
 -- there is none
 pub record Unreachable (c : Config) (ts ls : List ℕ) (k : ℕ) (given : Given) : Type 0 where

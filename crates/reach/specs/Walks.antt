@@ -33,27 +33,27 @@ use Rattle.hand.specs.Hand.{Kept}
 use Rattle.step_laws.specs.Steps.{ifte-ind}
 use Rattle.step_laws.specs.Walks.{place-lt, Every, every-admit, tried-ind, visit-ind, sight-ind, steps-ind}
 use Rattle.keeps.specs.Fine.{Asks}
-use Rattle.reach.specs.Reach.{Reachable}
+use Rattle.reach.specs.Reach.{Reachable, ReachedBy}
 use Rattle.walk_laws.specs.Places.{every-tree}
 use Rattle.reach.specs.Ends.{Ends, ends-map, else-ends, Takes, one, access-gives}
 
 -- a list has no tree
-abbrev Empty : List Candidate → Type 0
-Empty [] = Unit {0}
-Empty (x ∷ xs) = ⊥
+abbrev NoneListed : List Candidate → Type 0
+NoneListed [] = Unit {0}
+NoneListed (x ∷ xs) = ⊥
 
-insert-some : (key t : ℕ) (xs : List Candidate) → Empty (insert key t xs) → ⊥
+insert-some : (key t : ℕ) (xs : List Candidate) → NoneListed (insert key t xs) → ⊥
 unfolding insert
 insert-some key t [] = λ e. e
-insert-some key t (rated k u ∷ xs) = ifte-ind (λ (l : List Candidate). Empty l → ⊥) (ltb k key) _ _ (λ _ e. e) (λ _ e. e)
+insert-some key t (rated k u ∷ xs) = ifte-ind (λ (l : List Candidate). NoneListed l → ⊥) (ltb k key) _ _ (λ _ e. e) (λ _ e. e)
 
-take-some : (m : ℕ) (xs : List Candidate) → 0 < m → (Empty xs → ⊥) → Empty (take m xs) → ⊥
+take-some : (m : ℕ) (xs : List Candidate) → 0 < m → (NoneListed xs → ⊥) → NoneListed (take m xs) → ⊥
 take-some zero xs h f e = not-suc-le-zero h
 take-some (suc m) [] h f e = f tt
 take-some (suc m) (x ∷ xs) h f e = e
 
 -- a tree that is listed stays in the list, or a better one
-admit-some : (m key t : ℕ) (xs : List Candidate) → 0 < m → Empty (admit m key t xs) → ⊥
+admit-some : (m key t : ℕ) (xs : List Candidate) → 0 < m → NoneListed (admit m key t xs) → ⊥
 unfolding admit
 admit-some m key t xs h = take-some m (insert key t xs) h (insert-some key t xs)
 
@@ -105,11 +105,7 @@ abbrev pub NoTree : Config → List ℕ → ℕ → Type 0
 NoTree c ts k = (t : ℕ) → t < trees c → entryAt ts t .reserved ≡ false → 0 < entryAt ts t .free → kindAt c k (entryAt ts t .class) ≡ 0
 
 module _ (c : Config) (sz : Size (c .order)) (q : Request) (A : Asks c q Any) (single : q .order ≡ 0) (ts ls bs : List ℕ) (K : Kept c ts ls bs) where
-  -- what is reachable by this request
-  abbrev Reach : Type 0
-  Reach = Reachable c ts ls (q .class) (q .local)
-
-  takes-reach : (t : ℕ) → Takes c ts (q .class) t → Reach
+  takes-reach : (t : ℕ) → Takes c ts (q .class) t → ReachedBy c ts ls q
   takes-reach t T = Reachable.entry t (T .inside) (T .unreserved) (T .some) (T .allowed)
 
   module _ (w : Walk) (j m start first : ℕ) (room : 0 < m) where
@@ -119,21 +115,21 @@ module _ (c : Config) (sz : Size (c .order)) (q : Request) (A : Asks c q Any) (s
 
     -- before step i: no word has changed; the listed trees may be taken of; with none listed all visited ones were passed over
     abbrev Before : ℕ → List Candidate → State → Type 0
-    Before i xs s = (s ≡ st ts ls bs (s .looks) (s .tries)) × (Every (Takes c ts (q .class)) xs × (Empty xs → Passed i))
+    Before i xs s = (s ≡ st ts ls bs (s .looks) (s .tries)) × (Every (Takes c ts (q .class)) xs × (NoneListed xs → Passed i))
 
     -- after step i
     abbrev After : ℕ → Out Got Sight → Type 0
-    After i (out (Got.Done f k) x) = Reach
+    After i (out (Got.Done f k) x) = ReachedBy c ts ls q
     After i (out Got.Missed x) = Before (i + 1) (x .found) (x .state)
     After i (out (Got.MissedAt t) x) = Before (i + 1) (x .found) (x .state)
-    After i (out Got.Stuck x) = Reach
+    After i (out Got.Stuck x) = ReachedBy c ts ls q
 
     -- at the end
     abbrev Final : ℕ → Out Got Sight → Type 0
-    Final last (out (Got.Done f k) x) = Reach
+    Final last (out (Got.Done f k) x) = ReachedBy c ts ls q
     Final last (out Got.Missed x) = Before last (x .found) (x .state)
     Final last (out (Got.MissedAt t) x) = Before last (x .found) (x .state)
-    Final last (out Got.Stuck x) = Reach
+    Final last (out Got.Stuck x) = ReachedBy c ts ls q
 
     place-takes : (i : ℕ) → rate c q w (entryAt ts (place (trees c) start i)) ≢ 0 → Takes c ts (q .class) (place (trees c) start i)
     place-takes i n =
@@ -152,7 +148,7 @@ module _ (c : Config) (sz : Size (c .order)) (q : Request) (A : Asks c q Any) (s
     unfolding withLook
     visit-after i xs s B = subst (λ (v : State). After i (visit c q w j m (place (trees c) start i) xs v)) (sym (B .0)) (at (s .looks) (s .tries))
       where
-        gave : (g : Got) (v : State) → Ends Reach ⊥ ts ls bs (out g v) → After i (out g (sight xs v))
+        gave : (g : Got) (v : State) → Ends (ReachedBy c ts ls q) ⊥ ts ls bs (out g v) → After i (out g (sight xs v))
         gave (Got.Done f x) v E = E
         gave Got.Missed v E = absurd (E .0)
         gave (Got.MissedAt t) v E = absurd (E .0)
@@ -163,25 +159,25 @@ module _ (c : Config) (sz : Size (c .order)) (q : Request) (A : Asks c q Any) (s
             visit-ind (After i) c q w j m (place (trees c) start i) xs (st ts ls bs l k)
             (λ e.
             let T = place-takes i (λ z. (let y : _≡_ {A = ℕ} best 0 = sym e ∙ z in omega arith)) in
-            tried-ind (Ends Reach ⊥ ts ls bs) (After i) xs (access c q w j (place (trees c) start i) (st ts ls bs (l + 1) k))
-            (access-gives c sz q A single ts ls bs K Reach ⊥ (takes-reach (place (trees c) start i) T) (place (trees c) start i) T w j (l + 1) k) gave)
+            tried-ind (Ends (ReachedBy c ts ls q) ⊥ ts ls bs) (After i) xs (access c q w j (place (trees c) start i) (st ts ls bs (l + 1) k))
+            (access-gives c sz q A single ts ls bs K (ReachedBy c ts ls q) ⊥ (takes-reach (place (trees c) start i) T) (place (trees c) start i) T w j (l + 1) k) gave)
             (λ z. (refl, (B .1 .0, λ e. next-passed i (B .1 .1 e) z)))
             (λ n. (refl, (every-admit (Takes c ts (q .class)) m _ (place (trees c) start i) (place-takes i n) xs (B .1 .0), λ e. absurd (admit-some m _ (place (trees c) start i) xs room e))))
 
     -- the list is tried: its first gives
-    list-ends : (xs : List Candidate) (s : State) (last : ℕ) → Before last xs s → Ends Reach (Passed last) ts ls bs (tryList c q w j xs s)
+    list-ends : (xs : List Candidate) (s : State) (last : ℕ) → Before last xs s → Ends (ReachedBy c ts ls q) (Passed last) ts ls bs (tryList c q w j xs s)
     unfolding tryList missed
     list-ends [] s last B = (B .1 .1 tt, B .0)
     list-ends (rated key t ∷ xs) s last B =
-        subst (λ (v : State). Ends Reach (Passed last) ts ls bs (orElse (access c q w j t v) (tryList c q w j xs))) (sym (B .0))
-        (else-ends Reach ts ls bs ⊥ (Passed last) (access c q w j t (st ts ls bs (s .looks) (s .tries))) (tryList c q w j xs)
-        (access-gives c sz q A single ts ls bs K Reach ⊥ (takes-reach t (B .1 .0 .0)) t (B .1 .0 .0) w j (s .looks) (s .tries))
+        subst (λ (v : State). Ends (ReachedBy c ts ls q) (Passed last) ts ls bs (orElse (access c q w j t v) (tryList c q w j xs))) (sym (B .0))
+        (else-ends (ReachedBy c ts ls q) ts ls bs ⊥ (Passed last) (access c q w j t (st ts ls bs (s .looks) (s .tries))) (tryList c q w j xs)
+        (access-gives c sz q A single ts ls bs K (ReachedBy c ts ls q) ⊥ (takes-reach t (B .1 .0 .0)) t (B .1 .0 .0) w j (s .looks) (s .tries))
         (λ n i k. absurd n))
 
-    pub search-ends : (last i k : ℕ) → Ends Reach (Passed (first + (last - first))) ts ls bs (searchBest c q w j m (trees c) start first last (st ts ls bs i k))
+    pub search-ends : (last i k : ℕ) → Ends (ReachedBy c ts ls q) (Passed (first + (last - first))) ts ls bs (searchBest c q w j m (trees c) start first last (st ts ls bs i k))
     unfolding searchBest walk stopped
     search-ends last i k =
-        sight-ind (Final (first + (last - first))) (Ends Reach (Passed (first + (last - first))) ts ls bs) (walk c q w j m (trees c) start first last [] (st ts ls bs i k)) stopped (tryList c q w j)
+        sight-ind (Final (first + (last - first))) (Ends (ReachedBy c ts ls q) (Passed (first + (last - first))) ts ls bs) (walk c q w j m (trees c) start first last [] (st ts ls bs i k)) stopped (tryList c q w j)
         (steps-ind c q w j m (trees c) start Before After (Final (first + (last - first))) visit-after
         (λ i f k x a. a) (λ i x a. a) (λ i t x a. a) (λ i x a. a)
         (last - first) first (first + (last - first)) refl (λ xs s b. b) [] (st ts ls bs i k) (refl, (tt, λ e x l h. absurd (omega arith))))
@@ -198,23 +194,23 @@ module _ (c : Config) (sz : Size (c .order)) (q : Request) (A : Asks c q Any) (s
       (subst (λ (x : ℕ). rate c q w (entryAt ts x) ≡ 0) (v .1 .1) (P (v .0) (omega arith) (omega (arith, v .1 .0))))
       u (omega (arith, one c sz q A single ts ls bs K))
 
-  pub searchAndSteal-ends : (start i k : ℕ) → Ends Reach (NoTree c ts (q .class)) ts ls bs (searchAndSteal c q start (st ts ls bs i k))
+  pub searchAndSteal-ends : (start i k : ℕ) → Ends (ReachedBy c ts ls q) (NoTree c ts (q .class)) ts ls bs (searchAndSteal c q start (st ts ls bs i k))
   unfolding searchAndSteal
   searchAndSteal-ends start i k =
-      ends-map Reach ts ls bs (Passed Walk.Stealing 0 8 start 0 (omega arith) (0 + (trees c - 0))) (NoTree c ts (q .class)) (searchBest c q Walk.Stealing 0 8 (trees c) start 0 (trees c) (st ts ls bs i k)) (all-passed Walk.Stealing tt start)
+      ends-map (ReachedBy c ts ls q) ts ls bs (Passed Walk.Stealing 0 8 start 0 (omega arith) (0 + (trees c - 0))) (NoTree c ts (q .class)) (searchBest c q Walk.Stealing 0 8 (trees c) start 0 (trees c) (st ts ls bs i k)) (all-passed Walk.Stealing tt start)
       (search-ends Walk.Stealing 0 8 start 0 (omega arith) (trees c) i k)
 
-  far-ends : (j start i k : ℕ) → Ends Reach (NoTree c ts (q .class)) ts ls bs (searchFar c q j start (st ts ls bs i k))
+  far-ends : (j start i k : ℕ) → Ends (ReachedBy c ts ls q) (NoTree c ts (q .class)) ts ls bs (searchFar c q j start (st ts ls bs i k))
   unfolding searchFar
   far-ends j start i k =
-      ends-map Reach ts ls bs (Passed Walk.Far j 8 start 0 (omega arith) (0 + (trees c - 0))) (NoTree c ts (q .class)) (searchBest c q Walk.Far j 8 (trees c) start 0 (trees c) (st ts ls bs i k)) (all-passed Walk.Far tt start)
+      ends-map (ReachedBy c ts ls q) ts ls bs (Passed Walk.Far j 8 start 0 (omega arith) (0 + (trees c - 0))) (NoTree c ts (q .class)) (searchBest c q Walk.Far j 8 (trees c) start 0 (trees c) (st ts ls bs i k)) (all-passed Walk.Far tt start)
       (search-ends Walk.Far j 8 start 0 (omega arith) (trees c) i k)
 
-  pub searchAndReserve-ends : (j start i k : ℕ) → Ends Reach (NoTree c ts (q .class)) ts ls bs (searchAndReserve c q j start (st ts ls bs i k))
+  pub searchAndReserve-ends : (j start i k : ℕ) → Ends (ReachedBy c ts ls q) (NoTree c ts (q .class)) ts ls bs (searchAndReserve c q j start (st ts ls bs i k))
   unfolding searchAndReserve searchFrom
   searchAndReserve-ends j start i k =
-      ifte-ind (Ends Reach (NoTree c ts (q .class)) ts ls bs) (ltb (q .order) (hugeOrder (c .order))) _ _
-      (λ _. else-ends Reach ts ls bs (Passed Walk.Near j 3 (roundedStart (trees c) start) 1 (omega arith) (1 + (near (trees c) - 1))) (NoTree c ts (q .class)) (searchBest c q Walk.Near j 3 (trees c) (roundedStart (trees c) start) 1 (near (trees c)) (st ts ls bs i k)) (searchFar c q j (roundedStart (trees c) start))
+      ifte-ind (Ends (ReachedBy c ts ls q) (NoTree c ts (q .class)) ts ls bs) (ltb (q .order) (hugeOrder (c .order))) _ _
+      (λ _. else-ends (ReachedBy c ts ls q) ts ls bs (Passed Walk.Near j 3 (roundedStart (trees c) start) 1 (omega arith) (1 + (near (trees c) - 1))) (NoTree c ts (q .class)) (searchBest c q Walk.Near j 3 (trees c) (roundedStart (trees c) start) 1 (near (trees c)) (st ts ls bs i k)) (searchFar c q j (roundedStart (trees c) start))
       (search-ends Walk.Near j 3 (roundedStart (trees c) start) 1 (omega arith) (near (trees c)) i k)
       (λ _ l t. far-ends j (roundedStart (trees c) start) l t))
       (λ _. far-ends j (roundedStart (trees c) start) i k)

@@ -1,3 +1,2 @@
--- the number of trees, the start rounded down
-pub mod Count
+-- the start rounded down
 pub mod Rounded

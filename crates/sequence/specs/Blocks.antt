@@ -23,7 +23,7 @@ use Rattle.lower_laws.specs.Mark.{Marked, marked}
 use Rattle.lower_laws.specs.Clear.{clear-take, clear-give, clear-other}
 use Rattle.policy_laws.specs.All.{both-left, both-right, both-true, both-false}
 use Rattle.hand.specs.Hand.{here, share, shares}
-use Rattle.sequence.specs.Demand.{inTree, inBlock, reservation}
+use Rattle.sequence.specs.Demand.{framesIn, inBlock, reservedOn}
 
 -- ---- a frame of a block, or beside it
 in-true : (o f x : ℕ) → f ≤ x → x < f + 2 ^ o → inBlock o f x ≡ true
@@ -83,30 +83,30 @@ module _ (ws : List ℕ) (o j : ℕ) (b : Block ws o j) where
   -- the frames of each tree
   module _ (z : ℕ) (six : 6 ≤ z) (le : o ≤ z) where
     -- the tree of the block
-    place : Inside z o (j * 2 ^ o / treeFrames z) j
-    place = subst (Inside z o (j * 2 ^ o / treeFrames z)) (shl-shr j o) (in-tree z o (j * 2 ^ o) le)
+    its-tree : Inside z o (j * 2 ^ o / treeFrames z) j
+    its-tree = subst (Inside z o (j * 2 ^ o / treeFrames z)) (shl-shr j o) (in-tree z o (j * 2 ^ o) le)
 
-    in-this : (t : ℕ) → j * 2 ^ o / treeFrames z ≡ t → inTree z t o (j * 2 ^ o) ≡ 2 ^ o
-    unfolding inTree
+    in-this : (t : ℕ) → j * 2 ^ o / treeFrames z ≡ t → framesIn z t o (j * 2 ^ o) ≡ 2 ^ o
+    unfolding framesIn
     in-this t e = ap (λ (y : Bool). pick y (2 ^ o) 0) (eq-eqb (j * 2 ^ o / treeFrames z) t e)
 
-    in-other : (t : ℕ) → (j * 2 ^ o / treeFrames z ≡ t → ⊥) → inTree z t o (j * 2 ^ o) ≡ 0
-    unfolding inTree
+    in-other : (t : ℕ) → (j * 2 ^ o / treeFrames z ≡ t → ⊥) → framesIn z t o (j * 2 ^ o) ≡ 0
+    unfolding framesIn
     in-other t e = ap (λ (y : Bool). pick y (2 ^ o) 0) (ne-eqb (j * 2 ^ o / treeFrames z) t e)
 
-    pub take-counts : heldIn ws o j ≡ 0 → (t : ℕ) → clear z (mark true ws o j) t + inTree z t o (j * 2 ^ o) ≡ clear z ws t
+    pub take-counts : heldIn ws o j ≡ 0 → (t : ℕ) → clear z (mark true ws o j) t + framesIn z t o (j * 2 ^ o) ≡ clear z ws t
     take-counts e t = go (ℕ-discrete (j * 2 ^ o / treeFrames z) t)
       where
-        go : Dec (j * 2 ^ o / treeFrames z ≡ t) → clear z (mark true ws o j) t + inTree z t o (j * 2 ^ o) ≡ clear z ws t
-        go (yes d) = omega (arith, in-this t d, clear-take z ws o j t six b (subst (λ (x : ℕ). Inside z o x j) d place) e)
-        go (no d) = omega (arith, in-other t d, clear-other z ws o j t six b true (j * 2 ^ o / treeFrames z) place (λ q. d (sym q)))
+        go : Dec (j * 2 ^ o / treeFrames z ≡ t) → clear z (mark true ws o j) t + framesIn z t o (j * 2 ^ o) ≡ clear z ws t
+        go (yes d) = omega (arith, in-this t d, clear-take z ws o j t six b (subst (λ (x : ℕ). Inside z o x j) d its-tree) e)
+        go (no d) = omega (arith, in-other t d, clear-other z ws o j t six b true (j * 2 ^ o / treeFrames z) its-tree (λ q. d (sym q)))
 
-    pub give-counts : heldIn ws o j ≡ 2 ^ o → (t : ℕ) → clear z (mark false ws o j) t ≡ clear z ws t + inTree z t o (j * 2 ^ o)
+    pub give-counts : heldIn ws o j ≡ 2 ^ o → (t : ℕ) → clear z (mark false ws o j) t ≡ clear z ws t + framesIn z t o (j * 2 ^ o)
     give-counts e t = go (ℕ-discrete (j * 2 ^ o / treeFrames z) t)
       where
-        go : Dec (j * 2 ^ o / treeFrames z ≡ t) → clear z (mark false ws o j) t ≡ clear z ws t + inTree z t o (j * 2 ^ o)
-        go (yes d) = omega (arith, in-this t d, clear-give z ws o j t six b (subst (λ (x : ℕ). Inside z o x j) d place) e)
-        go (no d) = omega (arith, in-other t d, clear-other z ws o j t six b false (j * 2 ^ o / treeFrames z) place (λ q. d (sym q)))
+        go : Dec (j * 2 ^ o / treeFrames z ≡ t) → clear z (mark false ws o j) t ≡ clear z ws t + framesIn z t o (j * 2 ^ o)
+        go (yes d) = omega (arith, in-this t d, clear-give z ws o j t six b (subst (λ (x : ℕ). Inside z o x j) d its-tree) e)
+        go (no d) = omega (arith, in-other t d, clear-other z ws o j t six b false (j * 2 ^ o / treeFrames z) its-tree (λ q. d (sym q)))
 
 -- ---- the count of the reservation on a tree is what the locals have of it
 reserved-share : (z : ℕ) (l : Local) (t : ℕ) → pick (l .present) (pick (eqb (treeOn z l) t) (l .free) 0) 0 ≡ share z l t
@@ -117,8 +117,8 @@ reserved-share z l t = ap (λ (y : Bool). pick (l .present) (pick y (l .free) 0)
     go (yes e) = eq-eqb (treeOn z l) t (sym e) ∙ sym (eq-eqb t (treeOn z l) e)
     go (no e) = ne-eqb (treeOn z l) t (λ q. e (sym q)) ∙ sym (ne-eqb t (treeOn z l) e)
 
-pub reservation-is : (z : ℕ) (ls : List ℕ) (t : ℕ) → reservation z ls t ≡ shares z t ls
-unfolding reservation shares
-reservation-is z ls t =
+pub reserved-is : (z : ℕ) (ls : List ℕ) (t : ℕ) → reservedOn z ls t ≡ shares z t ls
+unfolding reservedOn shares
+reserved-is z ls t =
     sum-ext (λ j. pick (localAt ls j .present) (pick (eqb (treeOn z (localAt ls j)) t) (localAt ls j .free) 0) 0) (λ j. share z (localAt ls j) t) 0 (length ls)
     (λ j x y. reserved-share z (localAt ls j) t)

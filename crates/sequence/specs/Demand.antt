@@ -70,18 +70,18 @@ NoRestart (starts h pairs allFree r ∷ xs) = (outcomeOf r ≡ 0 → ⊥) × NoR
 -- ---- the ledger, from the calls and their answers alone
 
 -- 2^order where the block of that frame lies in tree t, else 0
-unfoldable pub inTree : ℕ → ℕ → ℕ → ℕ → ℕ
-inTree z t o f = pick (eqb (f / treeFrames z) t) (2 ^ o) 0
+unfoldable pub framesIn : ℕ → ℕ → ℕ → ℕ → ℕ
+framesIn z t o f = pick (eqb (f / treeFrames z) t) (2 ^ o) 0
 
 -- frames of tree t that an accepted get handed out
 unfoldable pub handed : ℕ → ℕ → ℕ → Granted → ℕ
-handed z t o (Granted.Done f k) = inTree z t o f
+handed z t o (Granted.Done f k) = framesIn z t o f
 handed z t o (Granted.Refused x) = 0
 
 -- frames of tree t that an accepted put gave back
-unfoldable pub given : ℕ → ℕ → ℕ → ℕ → Outcome → ℕ
-given z t o f Outcome.Done = inTree z t o f
-given z t o f (Outcome.Refused x) = 0
+unfoldable pub gaveBack : ℕ → ℕ → ℕ → ℕ → Outcome → ℕ
+gaveBack z t o f Outcome.Done = framesIn z t o f
+gaveBack z t o f (Outcome.Refused x) = 0
 
 -- frames of tree t handed out in all
 unfoldable pub handedOut : ℕ → ℕ → List Step → ℕ
@@ -96,7 +96,7 @@ handedOut z t (starts h pairs allFree r ∷ xs) = handedOut z t xs
 unfoldable pub givenBack : ℕ → ℕ → List Step → ℕ
 givenBack z t [] = 0
 givenBack z t (gets name q r ∷ xs) = givenBack z t xs
-givenBack z t (puts f q r ∷ xs) = given z t (q .order) f r + givenBack z t xs
+givenBack z t (puts f q r ∷ xs) = gaveBack z t (q .order) f r + givenBack z t xs
 givenBack z t (drains r ∷ xs) = givenBack z t xs
 givenBack z t (counts rows r filled ∷ xs) = givenBack z t xs
 givenBack z t (starts h pairs allFree r ∷ xs) = givenBack z t xs
@@ -146,8 +146,8 @@ NoneBroken (x ∷ xs) = (number x ≡ 1 → ⊥) × NoneBroken xs
 -- ---- the statement
 
 -- the count of the reservation on tree t, if there is one
-unfoldable pub reservation : ℕ → List ℕ → ℕ → ℕ
-reservation z ls t =
+unfoldable pub reservedOn : ℕ → List ℕ → ℕ → ℕ
+reservedOn z ls t =
     sum (λ j. pick (localAt ls j .present) (pick (eqb (treeOn z (localAt ls j)) t) (localAt ls j .free) 0) 0) 0 (length ls)
 
 -- the frames of tree t that are free where the first f frames are
@@ -158,7 +158,7 @@ freeIn z f t = atMost (treeFrames z) (f - treeFrames z * t)
 pub record Demand3 (z frames : ℕ) (allFree : Bool) (xs : List Step) (e : Words) : Type 0 where
   -- each tree's entry count plus the count of the reservation on it equals its frames free at the start, less those handed out, plus those given back
   pub conserved : (t : ℕ) → t < treeCount z frames
-      → entryAt (e .trees) t .free + reservation z (e .locals) t + handedOut z t xs ≡ freeIn z (freeAtStart allFree frames) t + givenBack z t xs
+      → entryAt (e .trees) t .free + reservedOn z (e .locals) t + handedOut z t xs ≡ freeIn z (freeAtStart allFree frames) t + givenBack z t xs
   -- no frame handed out was already held, and none given back was not
   pub once : NoneTwice (heldAtStart allFree frames) xs
   -- no call finds the state Broken

@@ -18,7 +18,7 @@ use Rattle.word_laws.specs.Sizes.{size-eleven}
 use Rattle.hand.specs.Hand.{Kept}
 use Rattle.standing_laws.specs.Standing.{kept-test, test-kept}
 use Rattle.sequence.specs.Demand.{Step, gets, puts, drains, counts, starts, Chain, number, NoRestart, handedOut, givenBack, heldAtStart, heldAfterGet, heldAfterPut, NoneTwice, NoneBroken, NoneStuck, Demand3, Sequence, NeverStuck, FromStanding, OthersUnchanged}
-use Rattle.sequence.specs.Blocks.{reservation-is}
+use Rattle.sequence.specs.Blocks.{reserved-is}
 use Rattle.sequence.specs.Refused.{step-left, rows-left}
 use Rattle.sequence.specs.Steps.{Agreed, get-step, put-step, drain-step, count-step, refused-start, start-step}
 
@@ -101,7 +101,7 @@ module _ (h : Header) (pairs : List ℕ) where
               omega (
                 arith,
                 K .sum t lt,
-                reservation-is 11 (e .locals) t,
+                reserved-is 11 (e .locals) t,
                 clear-held 11 (e .bits) t (size-eleven .least),
                 R .tally t,
                 start-step (config h pairs) size-eleven allFree s0 r s P z .counts t lt,

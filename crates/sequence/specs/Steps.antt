@@ -32,14 +32,14 @@ use Rattle.word_laws.specs.Sizes.{Size, count-frames, count-bits}
 use Rattle.word_laws.specs.Words.{absent-word, bit-true, bit-false}
 use Rattle.hand.specs.Hand.{Kept}
 use Rattle.step_laws.specs.Steps.{ifte-ind}
-use Rattle.keeps.specs.Fine as Fine
-use Rattle.keeps_calls.specs.Asked.{accepts}
+use Rattle.step_laws.specs.Checked.{refusal-checked}
+use Rattle.keeps.specs.Fine.{GrantedBlock}
 use Rattle.keeps_calls.specs.Fresh.{fresh-entry}
-use Rattle.keeps_calls.specs.Calls.{GetAny, PutAny, DrainKeeps, StartKeeps, Returned, get-any, get-refused, put-any, put-refused, drain-keeps, start-keeps, start-done}
+use Rattle.keeps_calls.specs.Calls.{GetAny, PutAny, DrainKeeps, StartKeeps, Returned, get-any, get-refused, put-any, put-refused, drain-keeps, at-start, start-keeps, start-done}
 use Rattle.complete.specs.Complete.{refused}
 use Rattle.standing_laws.specs.Holders.{on-none}
 use Rattle.standing_laws.specs.Standing.{kept-test}
-use Rattle.sequence.specs.Demand.{numberGot, inTree, inBlock, handed, given, heldAtStart, heldAfterGet, heldAfterPut, NotYetHeld, AllHeld, freeIn}
+use Rattle.sequence.specs.Demand.{numberGot, framesIn, inBlock, handed, gaveBack, heldAtStart, heldAfterGet, heldAfterPut, NotYetHeld, AllHeld, freeIn}
 use Rattle.sequence.specs.Blocks.{free-frame, held-frame, take-agrees, give-agrees, take-counts, give-counts, in-block}
 
 -- the rules stand, and the ledger holds what the bitmap holds
@@ -64,7 +64,7 @@ module _ (c : Config) (sz : Size (c .order)) (held : ℕ → Bool) (s : Words) (
   get-order q name e = go (refusal c q (frameOf name)) refl
     where
       go : (n : ℕ) → refusal c q (frameOf name) ≡ n → q .order ≤ c .order
-      go zero d = accepts c q (frameOf name) d .order
+      go zero d = refusal-checked c q (frameOf name) d .order
       go (suc n) d = absurd (omega (arith, e, ap (λ (x : Told). x .number) (get-refused c (s .trees) (s .locals) (s .bits) q name n passes d)))
 
   pub get-step : (q : Request) (name : Name) (g : Granted) (m : Words) (i k : ℕ)
@@ -73,7 +73,7 @@ module _ (c : Config) (sz : Size (c .order)) (held : ℕ → Bool) (s : Words) (
   get-step q name (Granted.Done f u) m i k P =
       let G : GetAny c q name (s .bits) (tellGet (Granted.Done f u) (st (m .trees) (m .locals) (m .bits) i k)) =
       subst (GetAny c q name (s .bits)) (sym P) (get-any c (s .trees) (s .locals) (s .bits) sz passes (A .kept) q name) in
-      let D : Fine.Granted c (q .order) name (s .bits) f u (m .bits) = G .granted refl in
+      let D : GrantedBlock c (q .order) name (s .bits) f u (m .bits) = G .granted refl in
       let le : q .order ≤ c .order = get-order q name (sym (ap (λ (x : Told). x .number) P)) in
       let j : ℕ = D .block in
       record {
@@ -84,8 +84,8 @@ module _ (c : Config) (sz : Size (c .order)) (held : ℕ → Bool) (s : Words) (
               ∙ sym (ap (λ (y : List ℕ). bit y x) (D .bits));
         };
         counts = λ t.
-            ap (λ (y : List ℕ). clear (c .order) y t + inTree (c .order) t (q .order) f) (D .bits)
-            ∙ ap (λ (y : ℕ). clear (c .order) (mark true (s .bits) (q .order) (D .block)) t + inTree (c .order) t (q .order) y) (D .frame)
+            ap (λ (y : List ℕ). clear (c .order) y t + framesIn (c .order) t (q .order) f) (D .bits)
+            ∙ ap (λ (y : ℕ). clear (c .order) (mark true (s .bits) (q .order) (D .block)) t + framesIn (c .order) t (q .order) y) (D .frame)
             ∙ take-counts (s .bits) (q .order) (D .block) (D .inside) (c .order) (sz .least) le (D .free) t;
         once = λ x n.
             let n′ : inBlock (q .order) (D .block * 2 ^ q .order) x ≡ true = subst (λ (y : ℕ). inBlock (q .order) y x ≡ true) (D .frame) n in
@@ -109,7 +109,7 @@ module _ (c : Config) (sz : Size (c .order)) (held : ℕ → Bool) (s : Words) (
   -- ---- put
   pub record PutStep (q : Request) (f : ℕ) (r : Outcome) (m : Words) : Type 0 where
     pub after : Agreed c (heldAfterPut held (q .order) f r) m
-    pub counts : (t : ℕ) → clear (c .order) (m .bits) t ≡ clear (c .order) (s .bits) t + given (c .order) t (q .order) f r
+    pub counts : (t : ℕ) → clear (c .order) (m .bits) t ≡ clear (c .order) (s .bits) t + gaveBack (c .order) t (q .order) f r
     pub once : AllHeld held (q .order) f r
     pub sound : outcomeOf r ≢ 1
     pub loose : outcomeOf r ≢ 9
@@ -118,11 +118,11 @@ module _ (c : Config) (sz : Size (c .order)) (held : ℕ → Bool) (s : Words) (
   put-order q f e = go (refusal c q f) refl
     where
       go : (n : ℕ) → refusal c q f ≡ n → q .order ≤ c .order
-      go zero d = accepts c q f d .order
+      go zero d = refusal-checked c q f d .order
       go (suc n) d = absurd (omega (arith, e, ap (λ (x : Told). x .number) (put-refused c (s .trees) (s .locals) (s .bits) q f n passes d)))
 
   pub put-step : (q : Request) (f : ℕ) (r : Outcome) (m : Words) → told r (m .trees) (m .locals) (m .bits) ≡ put c q f (s .trees) (s .locals) (s .bits) → PutStep q f r m
-  unfolding outcomeOf given heldAfterPut
+  unfolding outcomeOf gaveBack heldAfterPut
   put-step q f Outcome.Done m P =
       let G : PutAny c q f (s .trees) (s .locals) (s .bits) (told Outcome.Done (m .trees) (m .locals) (m .bits)) =
       subst (PutAny c q f (s .trees) (s .locals) (s .bits)) (sym P) (put-any c (s .trees) (s .locals) (s .bits) sz passes (A .kept) q f) in
@@ -138,7 +138,7 @@ module _ (c : Config) (sz : Size (c .order)) (held : ℕ → Bool) (s : Words) (
         counts = λ t.
             ap (λ (y : List ℕ). clear (c .order) y t) (D .bits)
             ∙ give-counts (s .bits) (q .order) (D .block) (D .inside) (c .order) (sz .least) le (D .held) t
-            ∙ sym (ap (λ (y : ℕ). clear (c .order) (s .bits) t + inTree (c .order) t (q .order) y) (D .frame));
+            ∙ sym (ap (λ (y : ℕ). clear (c .order) (s .bits) t + framesIn (c .order) t (q .order) y) (D .frame));
         once = λ x n.
             let n′ : inBlock (q .order) (D .block * 2 ^ q .order) x ≡ true = subst (λ (y : ℕ). inBlock (q .order) y x ≡ true) (D .frame) n in
             let v = in-block (q .order) f x n in
@@ -201,11 +201,6 @@ refused-start d allFree s r m P no′ =
     ∙ ⊎-elim (λ e. absurd (no′ (ap (λ (x : Told). x .number) P ∙ e))) (λ e. e) (started d allFree (s .trees) (s .locals) (s .bits))
 
 -- ---- an accepted start: the rules stand, and the ledger begins
-at-start : (allFree : Bool) (f : ℕ) → freeAtStart allFree f ≤ f
-unfolding freeAtStart
-at-start true f = omega arith
-at-start false f = omega arith
-
 module _ (c : Config) (sz : Size (c .order)) (allFree : Bool) (s0 : Words) where
   pub record StartStep (s : Words) : Type 0 where
     pub begins : Agreed c (heldAtStart allFree (c .frames)) s

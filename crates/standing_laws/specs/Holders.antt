@@ -1,57 +1,23 @@
 -- The locals that hold a tree, counted: one, none, all trees together. Assumes nothing.
 use mathlib.Core.Path.{_≡_, refl, sym, ap, _∙_}
 use mathlib.Core.Bool.{true}
-use mathlib.Core.Logic.{_≢_, _⊎_, inl, inr, ⊎-elim}
+use mathlib.Core.Logic.{_⊎_, inl, inr, ⊎-elim}
 use mathlib.Core.List.{List}
-use Prim.Native.Nat.{ℕ, zero, suc, _+_, _<_, _≤_}
-use native.Mathlib.Nat.{eq-or-lt-of-le}
+use Prim.Native.Nat.{ℕ, _<_, _≤_}
 use native.Mathlib.Omega.{arith}
-use native.Mathlib.Decide.{ℕ-discrete, decLt}
+use native.Mathlib.Decide.{ℕ-discrete}
 use lib.ListN.{length}
 use Rattle.rules.specs.Base.{bitOf, sum}
 use Rattle.rules.specs.Words.{localAt}
 use Rattle.rules.specs.declared.Local.{Local}
 use Rattle.ways.specs.Standing.{treeOn, presentCount}
 use Rattle.lower_laws.specs.Sum.{sum-zero, sum-ext, zero-at}
+use Rattle.lower_laws.specs.Cases.{neither-below}
 use Rattle.policy_laws.specs.All.{by}
-use Rattle.word_laws.specs.Sums.{sum-ge, sum-change, sum-swap}
+use Rattle.word_laws.specs.Sums.{sum-only, sum-two, sum-find, sum-swap}
 use Rattle.word_laws.specs.Words.{present-lt}
 use Rattle.hand.specs.Hand.{share, holds, shares, holders}
 use Rattle.moves.specs.Here.{here-same, here-other, share-here, holds-here, share-none, holds-none}
-
--- ---- sums
--- all terms but one are nothing
-pub sum-only : (f : ℕ → ℕ) (n j : ℕ) → j < n → ((i : ℕ) → i ≢ j → f i ≡ 0) → sum f 0 n ≡ f j
-sum-only f n j lt h =
-    omega (
-      arith,
-      sum-change (λ i. 0) f 0 n j (omega arith) (omega arith) (λ i ne. sym (h i ne)),
-      sum-zero (λ i. 0) 0 n (λ i x y. refl),
-    )
-
--- two terms are at most the sum
-pub sum-two : (f : ℕ → ℕ) (n i j : ℕ) → i < j → j < n → f i + f j ≤ sum f 0 n
-unfolding sum
-sum-two f zero i j l m = absurd (omega arith)
-sum-two f (suc n) i j l m =
-    let k : j ≤ n = omega arith in
-    let z : 0 + n ≡ n = omega arith in
-    let t : f (0 + n) ≡ f n = ap f z in
-    ⊎-elim
-    (λ q. (let e : f j ≡ f n = ap f q in omega (arith, e, t, sum-ge f 0 n i (omega arith) (omega arith))))
-    (λ r. omega (arith, sum-two f n i j l r))
-    (eq-or-lt-of-le k)
-
--- a sum is nothing, or has a term that is something
-pub sum-find : (f : ℕ → ℕ) (n : ℕ) → (sum f 0 n ≡ 0) ⊎ ((j : ℕ) × ((j < n) × (0 < f j)))
-unfolding sum
-sum-find f zero = inl refl
-sum-find f (suc n) = go (sum-find f n) (decLt 0 (f n))
-  where
-    go : (sum f 0 n ≡ 0) ⊎ ((j : ℕ) × ((j < n) × (0 < f j))) → Dec (0 < f n) → (sum f 0 n + f (0 + n) ≡ 0) ⊎ ((j : ℕ) × ((j < suc n) × (0 < f j)))
-    go (inr (j, (l, p))) d = inr (j, (omega arith, p))
-    go (inl e) (yes p) = inr (n, (omega arith, p))
-    go (inl e) (no p) = inl (let z : 0 + n ≡ n = omega arith in let t : f (0 + n) ≡ f n = ap f z in omega arith)
 
 -- ---- one local
 -- on the tree
@@ -117,12 +83,7 @@ module _ (z t : ℕ) (ls : List ℕ) where
 
   -- with at most one holder, two locals on the tree are one
   pub one-on : holders z t ls ≤ 1 → (i j : ℕ) → localAt ls i .present ≡ true → treeOn z (localAt ls i) ≡ t → localAt ls j .present ≡ true → treeOn z (localAt ls j) ≡ t → i ≡ j
-  one-on h i j p o q r = go (decLt i j) (decLt j i)
-    where
-      go : Dec (i < j) → Dec (j < i) → i ≡ j
-      go (yes l) d = absurd (omega (arith, two-before i j l p o q r))
-      go (no l) (yes m) = absurd (omega (arith, two-before j i m q r p o))
-      go (no l) (no m) = omega arith
+  one-on h i j p o q r = neither-below i j (λ l. omega (arith, two-before i j l p o q r)) (λ l. omega (arith, two-before j i l q r p o))
 
   -- a tree has no holder, or there is a local on it
   pub find-on : (holders z t ls ≡ 0) ⊎ ((j : ℕ) × ((j < length ls) × ((localAt ls j .present ≡ true) × (treeOn z (localAt ls j) ≡ t))))

@@ -13,6 +13,7 @@ use Rattle.rules.specs.Policy.{accepted, Good}
 use Rattle.rules.specs.Lower.{bit, held, clear}
 use Rattle.ways.specs.Standing.{treeOn, reservedCount, presentCount, lengthsExact, standing, Standing}
 use Rattle.ways.specs.Calls.{start}
+use Rattle.lower_laws.specs.Cases.{neither-below}
 use Rattle.lower_laws.specs.Sum.{sum-all, one-at, sum-ext}
 use Rattle.lower_laws.specs.Held.{bit-le}
 use Rattle.lower_laws.specs.Clear.{clear-held}
@@ -57,15 +58,10 @@ module _ (c : Config) (sz : Size (c .order)) (ts ls bs : List ℕ) where
         subst (λ (x : ℕ). localAt ls x .present ≡ false → getD ls x 0 ≡ 0) (L .is) (P .absent (L .class) (L .index) (L .classLt) (L .indexLt)) p
 
     here-lt : (j : ℕ) → localAt ls j .present ≡ true → j < localCount (c .places)
-    here-lt j p = omega (arith, present-lt ls j p, P .localWords)
+    here-lt j p = omega (arith, present-lt ls j p, P .lengths .localWords)
 
     distinct-at : (i j : ℕ) → localAt ls i .present ≡ true → localAt ls j .present ≡ true → treeOn (c .order) (localAt ls i) ≡ treeOn (c .order) (localAt ls j) → i ≡ j
-    distinct-at i j p q e = go (decLt i j) (decLt j i)
-      where
-        go : Dec (i < j) → Dec (j < i) → i ≡ j
-        go (yes l) d = absurd (P .distinct i j l (here-lt j q) p q e)
-        go (no l) (yes m) = absurd (P .distinct j i m (here-lt i p) q p (sym e))
-        go (no l) (no m) = omega arith
+    distinct-at i j p q e = neither-below i j (λ l. P .distinct i j l (here-lt j q) p q e) (λ l. P .distinct j i l (here-lt i p) q p (sym e))
 
     -- a tree has as many holders as its entry is reserved, at most
     holders-le : (t : ℕ) → t < trees c → holders (c .order) t ls ≤ bitOf (entryAt ts t .reserved)
@@ -85,16 +81,16 @@ module _ (c : Config) (sz : Size (c .order)) (ts ls bs : List ℕ) where
     unfolding reservedCount
     holders-are t lt =
         sum-tight (λ t. holders (c .order) t ls) (λ t. bitOf (entryAt ts t .reserved)) 0 (trees c) (λ i x y. holders-le i (omega arith))
-        (holders-all (c .order) ls (trees c) (λ j p. holder-at j (here-lt j p) p .0) ∙ ap (presentCount ls) (P .localWords) ∙ sym (P .counts)) t (omega arith) (omega arith)
+        (holders-all (c .order) ls (trees c) (λ j p. holder-at j (here-lt j p) p .0) ∙ ap (presentCount ls) (P .lengths .localWords) ∙ sym (P .counts)) t (omega arith) (omega arith)
 
     parts-rules : Standing c ts ls bs
     unfolding held
     parts-rules =
         record {
           config = P .config;
-          treeWords = P .treeWords;
-          localWords = P .localWords;
-          bitWords = P .bitWords;
+          treeWords = P .lengths .treeWords;
+          localWords = P .lengths .localWords;
+          bitWords = P .lengths .bitWords;
           free = λ t lt. P .entries t lt .free;
           class = λ t lt. configured-fact c (entryAt ts t .class) (eight t lt) (P .entries t lt .class);
           inside = λ j lt p. holder-at j lt p .0;
@@ -103,7 +99,7 @@ module _ (c : Config) (sz : Size (c .order)) (ts ls bs : List ℕ) where
           holder = λ t lt r.
               ⊎-elim
               (λ e. absurd (omega (arith, e, holders-are t lt, ap bitOf r)))
-              (λ h. (h .0, (omega (arith, h .1 .0, P .localWords), h .1 .1)))
+              (λ h. (h .0, (omega (arith, h .1 .0, P .lengths .localWords), h .1 .1)))
               (find-on (c .order) t ls);
           pair = λ k i lk li p. P .present k i lk li p .pair;
           unheld = λ t lt. P .entries t lt .unheld;
@@ -189,9 +185,7 @@ module _ (c : Config) (sz : Size (c .order)) (ts ls bs : List ℕ) where
     kept-parts =
         record {
           config = K .config;
-          treeWords = K .treeWords;
-          localWords = K .localWords;
-          bitWords = K .bitWords;
+          lengths = record { treeWords = K .treeWords; localWords = K .localWords; bitWords = K .bitWords };
           entries = λ t lt. record {
             free = K .free t lt;
             class = configured-true c (entryAt ts t .class) (K .class t lt);

@@ -7,13 +7,14 @@ use lib.Dec.{eqb, leb, ltb}
 use lib.ListN.{getD, length}
 use borrow.Author.Tests.{eqb-true, leb-true, ltb-true, eq-eqb, ne-eqb, le-leb, lt-ltb, eqb-false, not-true}
 use Rattle.rules.specs.Base.{pick, allBelow}
-use Rattle.rules.specs.Words.{Config, treeFrames, treeRows, trees, configured, localsOf, slot, localCount, entryAt, localAt}
+use Rattle.rules.specs.Words.{Config, treeFrames, trees, configured, localsOf, slot, localCount, entryAt, localAt}
 use Rattle.rules.specs.Policy.{accepted, good, Good}
 use Rattle.rules.specs.Lower.{held, clear}
 use Rattle.rules.specs.declared.Local.{Local}
 use Rattle.ways.specs.Standing.{treeOn, lengthsExact, entryStands, holderStands, localStands, classStands, apart, apartBefore, reservedCount, presentCount, pastHeld, standing}
 use Rattle.policy_laws.specs.All.{true-false, both-left, both-right, both-true, all-at, all-make}
 use Rattle.policy_laws.specs.Kinds.{good-fact, good-true}
+use Rattle.step_laws.specs.Tested.{Lengths, lengths-say, say-lengths, standing-accepted}
 
 -- of an entry
 pub record EntryPart (c : Config) (ts bs : List ℕ) (t : ℕ) : Type 0 where
@@ -31,9 +32,7 @@ pub record HolderPart (c : Config) (ts bs : List ℕ) (k : ℕ) (l : Local) : Ty
 -- of the whole state
 pub record Parts (c : Config) (ts ls bs : List ℕ) : Type 0 where
   pub config : accepted c ≡ true
-  pub treeWords : length ts ≡ trees c
-  pub localWords : length ls ≡ localCount (c .places)
-  pub bitWords : length bs ≡ treeRows (c .order) * trees c
+  pub lengths : Lengths c ts ls bs
   pub entries : (t : ℕ) → t < trees c → EntryPart c ts bs t
   pub present : (k i : ℕ) → k < 8 → i < localsOf (c .places) k → localAt ls (slot (c .places) k i) .present ≡ true → HolderPart c ts bs k (localAt ls (slot (c .places) k i))
   pub absent : (k i : ℕ) → k < 8 → i < localsOf (c .places) k → localAt ls (slot (c .places) k i) .present ≡ false → getD ls (slot (c .places) k i) 0 ≡ 0
@@ -111,21 +110,17 @@ module _ (c : Config) (ts ls bs : List ℕ) where
 
   -- the parts of a state that passes
   pub test-parts : standing c ts ls bs ≡ true → Parts c ts ls bs
-  unfolding standing lengthsExact localStands pastHeld
+  unfolding standing localStands pastHeld
   test-parts e =
       let a = both-right (accepted c) _ e in
-      let l = both-left (lengthsExact c ts ls bs) _ a in
-      let l1 = both-right (eqb (length ts) (trees c)) _ l in
       let b = both-right (lengthsExact c ts ls bs) _ a in
       let d = both-right (allBelow (trees c) (entryStands c ts bs)) _ b in
       let f = both-right (allBelow 8 (classStands c ts ls bs)) _ d in
       let g = both-right (allBelow (localCount (c .places)) (apartBefore (c .order) ls)) _ f in
       let locals = both-left (allBelow 8 (classStands c ts ls bs)) _ d in
       record {
-        config = both-left (accepted c) _ e;
-        treeWords = eqb-true _ _ (both-left (eqb (length ts) (trees c)) _ l);
-        localWords = eqb-true _ _ (both-left (eqb (length ls) (localCount (c .places))) _ l1);
-        bitWords = eqb-true _ _ (both-right (eqb (length ls) (localCount (c .places))) _ l1);
+        config = standing-accepted c ts ls bs e;
+        lengths = lengths-say c ts ls bs (both-left (lengthsExact c ts ls bs) _ a);
         entries = λ t lt. entry-says t (all-at (trees c) (entryStands c ts bs) (both-left (allBelow (trees c) (entryStands c ts bs)) _ b) t lt);
         present = λ k i lk li p. holder-says k (localAt ls (slot (c .places) k i)) (pick-at (localAt ls (slot (c .places) k i) .present) _ _ (local-at k i lk li locals) p);
         absent = λ k i lk li p. eqb-true _ _ (pick-else (localAt ls (slot (c .places) k i) .present) _ _ (local-at k i lk li locals) p);
@@ -136,11 +131,10 @@ module _ (c : Config) (ts ls bs : List ℕ) where
 
   -- and a state with these parts passes
   pub parts-test : Parts c ts ls bs → standing c ts ls bs ≡ true
-  unfolding standing lengthsExact localStands pastHeld
+  unfolding standing localStands pastHeld
   parts-test P =
       both-true (accepted c) _ (P .config)
-      (both-true (lengthsExact c ts ls bs) _
-      (both-true (eqb (length ts) (trees c)) _ (eq-eqb _ _ (P .treeWords)) (both-true (eqb (length ls) (localCount (c .places))) _ (eq-eqb _ _ (P .localWords)) (eq-eqb _ _ (P .bitWords))))
+      (both-true (lengthsExact c ts ls bs) _ (say-lengths c ts ls bs (P .lengths))
       (both-true (allBelow (trees c) (entryStands c ts bs)) _ (all-make (trees c) (entryStands c ts bs) (λ t lt. says-entry t (P .entries t lt)))
       (both-true (allBelow 8 (classStands c ts ls bs)) _
       (local-make (λ k i lk li. pick-make (localAt ls (slot (c .places) k i) .present) _ _ (λ p. says-holder k (localAt ls (slot (c .places) k i)) (P .present k i lk li p)) (λ p. eq-eqb _ _ (P .absent k i lk li p))))

@@ -1,16 +1,17 @@
 -- Laws of the loops: words written one after the other are a list of what was written. Assumes nothing.
-use lib.Dec.{lit<}
 use mathlib.Core.Path.{_≡_, refl, ap, ap₂, sym, _∙_}
 use mathlib.Core.List.{List, [], _∷_}
 use mathlib.Core.Logic.{⊎-elim}
 use Prim.Native.Nat.{ℕ, zero, suc, _+_, _-_, _*_, _/_, _%_, _^_, _<_, _≤_}
-use native.Mathlib.Nat.{add-zero, zero-add, eq-or-lt-of-le, mul-le-mul-right, one-mul}
+use native.Mathlib.Nat.{add-zero, zero-add, eq-or-lt-of-le, mul-le-mul-right}
 use native.Mathlib.Omega.{arith}
 use lib.ListN.{length, getD, set, length-set}
 use lib.Seq.{getD-set-same, getD-set-other}
-use lib.Pow.{pow-pos, pow-lt, shl-exact}
+use lib.Pow.{pow-pos, pow-lt}
 use borrow.Author.Tests.{le-leb, lt-leb}
+use Rattle.policy_laws.specs.Count.{count-most}
 use Rattle.lower_laws.specs.Cases.{below-or}
+use Rattle.lower_laws.specs.Power.{one-shl}
 use Rattle.rules.specs.Base.{listed}
 use Rattle.rules.specs.Words.{treeCount}
 use Rattle.ways.specs.Calls.{atMost, freshTree, freshWord}
@@ -122,17 +123,13 @@ module _ (f i : ℕ) where
 
 -- the number of trees of so many frames, in words of the bitmap
 pub words-few : (f : ℕ) → f ≤ 2 ^ 21 → 32 * treeCount 11 f < 2 ^ 32
-unfolding treeCount
-words-few f l = omega arith
+words-few f l = omega (arith, count-most 11 f l)
 
 -- ---- a bitmap word with n frames free
 
 module _ (n : ℕ) (h : n < 64) where
-  one-shl : 1 * 2 ^ n % 2 ^ 64 ≡ 2 ^ n
-  one-shl = shl-exact 1 n 64 (lit< tt) (omega arith) ∙ one-mul (2 ^ n)
-
   pub shl-some : 1 ≤ 1 * 2 ^ n % 2 ^ 64
-  shl-some = rw one-shl (pow-pos n)
+  shl-some = rw (one-shl n h) (pow-pos n)
 
   pub word-part : 2 ^ 64 - 1 - (1 * 2 ^ n % 2 ^ 64 - 1) ≡ 2 ^ 64 - 2 ^ n
-  word-part = let l : 2 ^ n < 2 ^ 64 = pow-lt {i = n} {j = 64} h in let p : 0 < 2 ^ n = pow-pos n in rw one-shl (omega arith)
+  word-part = let l : 2 ^ n < 2 ^ 64 = pow-lt {i = n} {j = 64} h in let p : 0 < 2 ^ n = pow-pos n in rw (one-shl n h) (omega arith)

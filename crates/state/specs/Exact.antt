@@ -4,15 +4,15 @@ use mathlib.Core.Bool.{true}
 use mathlib.Core.List.{List}
 use Prim.Native.Nat.{ℕ, _*_, _^_, _<_, _≤_}
 use native.Mathlib.Omega.{arith}
-use lib.Dec.{eqb}
 use lib.ListN.{length}
-use borrow.Author.Tests.{eqb-true, ltb-true}
-use Rattle.rules.specs.Base.{both, allBelow}
+use borrow.Author.Tests.{ltb-true}
+use Rattle.rules.specs.Base.{allBelow}
 use Rattle.rules.specs.Words.{Config, config, treeFrames, treeRows, treeCount, trees, localsOf, localCount, slot, localAt}
 use Rattle.rules.specs.Policy.{accepted}
 use Rattle.rules.specs.declared.Header.{Header}
 use Rattle.ways.specs.Standing.{treeOn, lengthsExact, holderStands, localStands, classStands}
-use Rattle.policy_laws.specs.All.{both-left, both-right, all-at}
+use Rattle.policy_laws.specs.All.{both-left, all-at}
+use Rattle.step_laws.specs.Tested.{lengths-say}
 use Rattle.holders.specs.Apart.{Inside}
 use Rattle.word_laws.specs.Slots.{Place, place-of}
 use Rattle.policy_laws.specs.Accepted.{accepted-says}
@@ -31,23 +31,11 @@ module _ (c : Config) where
   module _ (ts ls bs : List ℕ) where
     -- the test of the lengths says those of entries and bitmap
     pub exact-says : accepted c ≡ true → lengthsExact c ts ls bs ≡ true → Exact c ts bs
-    unfolding lengthsExact
-    exact-says a h =
-        let g : both (eqb (length ls) (localCount (c .places))) (eqb (length bs) (treeRows (c .order) * trees c)) ≡ true
-        = both-right (eqb (length ts) (trees c)) _ h in
-        record {
-          frames = frames-most a;
-          entries = eqb-true _ _ (both-left (eqb (length ts) (trees c)) _ h);
-          words = eqb-true _ _ (both-right (eqb (length ls) (localCount (c .places))) _ g);
-        }
+    exact-says a h = let l = lengths-say c ts ls bs h in record { frames = frames-most a; entries = l .treeWords; words = l .bitWords }
 
     -- and that of the locals
     pub locals-say : lengthsExact c ts ls bs ≡ true → length ls ≡ localCount (c .places)
-    unfolding lengthsExact
-    locals-say h =
-        let g : both (eqb (length ls) (localCount (c .places))) (eqb (length bs) (treeRows (c .order) * trees c)) ≡ true
-        = both-right (eqb (length ts) (trees c)) _ h in
-        eqb-true _ _ (both-left (eqb (length ls) (localCount (c .places))) _ g)
+    locals-say h = lengths-say c ts ls bs h .localWords
 
     -- the test of the locals says that each present one's tree is one of the configuration
     pub locals-inside : accepted c ≡ true → lengthsExact c ts ls bs ≡ true → allBelow 8 (classStands c ts ls bs) ≡ true

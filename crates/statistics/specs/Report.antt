@@ -2,14 +2,11 @@
 use mathlib.Core.Path.{_≡_, refl, sym, subst}
 use mathlib.Core.Bool.{Bool, true, false, not}
 use mathlib.Core.List.{List}
-use Prim.Native.Nat.{ℕ, _*_, _^_, _≤_}
-use native.Mathlib.Omega.{arith}
+use Prim.Native.Nat.{ℕ}
 use lib.Dec.{eqb→eq, T, eqb}
 use lib.ListN.{length}
 use Rattle.rules.specs.Base.{ifte}
-use Rattle.rules.specs.Words.{Config, config}
-use Rattle.rules.specs.Policy.{accepted}
-use Rattle.rules.specs.declared.Header.{Header}
+use Rattle.rules.specs.Words.{Config}
 use Rattle.ways.specs.declared.Refusal.{Refusal}
 use Rattle.ways.specs.declared.Refusal.the-variants as Refusal
 use Rattle.ways.specs.declared.Outcome.the-variants as Outcome
@@ -19,8 +16,6 @@ use Rattle.ways.specs.Standing.{standing}
 use Rattle.ways.specs.Statistics.{tally, totalFree, freeTrees, toldTotals, statistics}
 use Rattle.tallies.specs.declared.Rows.{Rows}
 use Rattle.tallies.specs.Rows.{rowsOf, rowList, rows-tallies}
-use Rattle.policy_laws.specs.All.{both-left}
-use Rattle.policy_laws.specs.Accepted.{accepted-says}
 use Rattle.statistics.specs.declared.Report.{Report}
 
 -- a refusal: zeros, and rows that are not stored
@@ -35,11 +30,6 @@ reportOf c ts ls bs n =
     (λ _. record { done = true; totals = record { outcome = Outcome.Done; free = totalFree c ts ls; trees = freeTrees c ts ls }; rows = rowsOf (tally c ts ls) })
     (λ _. refusing Refusal.Rows))
     (λ _. refusing Refusal.Broken)
-
--- a state that stands has at most 2^21 frames
-pub standing-small : (h : Header) (pairs ts ls bs : List ℕ) → standing (config h pairs) ts ls bs ≡ true → h .frames ≤ 2 ^ 21
-unfolding standing
-standing-small h pairs ts ls bs e = let m : h .frames ≤ 1024 * 2 ^ 11 = accepted-says (config h pairs) (both-left (accepted (config h pairs)) _ e) .most in omega arith
 
 module _ (c : Config) (ts ls bs : List ℕ) (rows : List Tally) where
   -- by how the tests come out

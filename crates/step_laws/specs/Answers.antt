@@ -2,14 +2,14 @@
 use mathlib.Core.Path.{_≡_, refl}
 use mathlib.Core.Bool.{Bool, true, false}
 use mathlib.Core.List.{List}
-use Prim.Native.Nat.{ℕ, zero, suc, _-_, _/_, _^_, _≤_}
+use Prim.Native.Nat.{ℕ, zero, suc, _/_, _^_, _≤_}
 use Rattle.rules.specs.Base.{Out, out}
 use Rattle.rules.specs.Words.{Config, treeFrames}
 use Rattle.rules.specs.Lower.{heldIn, mark, hasTree, lowerPut}
 use Rattle.ways.specs.State.{State, withBits}
 use Rattle.ways.specs.Standing.{standing}
 use Rattle.ways.specs.Calls.{Told, telling, unless, ifStanding, onGiven, onDrained}
-use Rattle.lower_laws.specs.Lower.{Given, put-ind}
+use Rattle.lower_laws.specs.Lower.{HeldBlock, put-ind}
 use Rattle.step_laws.specs.Steps.{ifte-ind}
 
 -- refused with a number, or on
@@ -26,7 +26,7 @@ standing-ind Q c s next f g = ifte-ind Q (standing c (s .trees) (s .locals) (s .
 
 -- the lower's put: the block was wholly held and is now free, or NotHeld
 pub given-ind : (Q : Told → Type 0) (z o f : ℕ) (s : State) (next : State → State) → 6 ≤ z → z ≤ 18 → o ≤ z
-    → (Given z (s .bits) o f → Q (telling 0 0 0 (next (withBits s (mark false (s .bits) o (f / 2 ^ o))))))
+    → (HeldBlock z (s .bits) o f → Q (telling 0 0 0 (next (withBits s (mark false (s .bits) o (f / 2 ^ o))))))
     → ((hasTree z (s .bits) (f / treeFrames z) ≡ true → heldIn (s .bits) o (f / 2 ^ o) ≡ 2 ^ o → ⊥) → Q (telling 8 0 0 s))
     → Q (onGiven (lowerPut z (s .bits) o f) s next)
 unfolding onGiven withBits

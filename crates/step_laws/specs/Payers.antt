@@ -1,6 +1,7 @@
--- Which local pays: a place of a configured class whose kind passes, with enough, and on the named tree. Assumes nothing.
-use mathlib.Core.Path.{_≡_, refl}
+-- Which local pays: one of a configured class whose kind passes, with enough, and on the named tree; and that none can where nobody does. Assumes nothing.
+use mathlib.Core.Path.{_≡_, refl, sym, subst}
 use mathlib.Core.Bool.{Bool, true, false}
+use mathlib.Core.Logic.{_⊎_, inl, inr}
 use mathlib.Core.List.{List}
 use Prim.Native.Nat.{ℕ, zero, suc, _+_, _%_, _<_, _≤_}
 use native.Mathlib.Nat.{mod-lt}
@@ -10,17 +11,20 @@ use borrow.Author.Tests.{leb-true}
 use Rattle.rules.specs.Base.{pick, both, firstIn}
 use Rattle.rules.specs.Words.{Config, configured, localsOf, slot, localAt}
 use Rattle.rules.specs.Policy.{policy, Configured}
-use Rattle.rules.specs.Locals.{inTree, hasEnough, cyclic, firstLocal, payerOr, payerIn}
+use Rattle.rules.specs.Locals.{inTree, hasEnough, cyclic, firstLocal, payerOr, mayPay, mayMove, payerIn}
 use Rattle.rules.specs.declared.Local.{Local}
 use Rattle.rules.specs.declared.Kind.{Kind}
+use Rattle.rules.specs.declared.Kind.the-variants.{Invalid, Steal, Demote, Match}
 use Rattle.rules.specs.declared.Name.{Name}
 use Rattle.rules.specs.declared.Found.{Found}
 use Rattle.rules.specs.declared.Found.the-variants.{At, Nothing}
 use Rattle.rules.specs.declared.Payer.{Payer}
 use Rattle.rules.specs.declared.Payer.the-variants as Payer
-use Rattle.lower_laws.specs.First.{first-sound}
-use Rattle.policy_laws.specs.All.{both-left, both-right}
-use Rattle.policy_laws.specs.Kinds.{configured-fact}
+use Rattle.lower_laws.specs.First.{first-sound, first-empty}
+use Rattle.lower_laws.specs.Cases.{by-eq}
+use Rattle.word_laws.specs.Round.{round-to}
+use Rattle.policy_laws.specs.All.{true-false, both-left, both-right, both-true}
+use Rattle.policy_laws.specs.Kinds.{kindNumber, configured-fact}
 use Rattle.step_laws.specs.Steps.{ifte-ind}
 
 -- a local that has enough
@@ -44,39 +48,101 @@ pub record Pays (p : Kind → Bool) (c : Config) (ls : List ℕ) (k : ℕ) (name
   pub passes : p (policy c k e n) ≡ true
   pub index : ℕ
   pub indexLt : index < localsOf (c .places) e
-  pub place : j ≡ slot (c .places) e index
+  pub is : j ≡ slot (c .places) e index
   pub has : Enough (c .order) (localAt ls j) name n
 
-module _ (Q : Payer → Type 0) (p : Kind → Bool) (c : Config) (ls : List ℕ) (k from : ℕ) (name : Name) (n : ℕ)
-    (nobody : Q Payer.Nobody) (local : (e j : ℕ) → Pays p c ls k name n e j → Q (Payer.Local e j)) where
-  -- the local of class e, or the next class
-  class-ind : (e : ℕ) (next : Unit {0} → Payer) → Configured c e → p (policy c k e n) ≡ true → Q (next tt)
+module _ (p : Kind → Bool) (c : Config) (ls : List ℕ) (k from : ℕ) (name : Name) (n : ℕ) where
+  -- the local of class e that is d further than the given index has enough
+  abbrev Has : ℕ → ℕ → Bool
+  Has e d = hasEnough (c .order) (localAt ls (slot (c .places) e ((from + d) % localsOf (c .places) e))) name n
+
+  -- no local of class e has enough
+  abbrev pub Unable : ℕ → Type 0
+  Unable e = (x : ℕ) → x < localsOf (c .places) e → hasEnough (c .order) (localAt ls (slot (c .places) e x)) name n ≡ false
+
+  -- nor has one of the i-th to the (i + m)-th class from k on, where the class's kind passes
+  abbrev pub Nobody : ℕ → ℕ → Type 0
+  Nobody i m = (d : ℕ) → i ≤ d → d < i + m → configured (c .places) ((k + d) % 8) ≡ true → p (policy c k ((k + d) % 8) n) ≡ true → Unable ((k + d) % 8)
+
+  -- the first local of class e with enough, or the next class
+  class-ind : (Q : Payer → Type 0) (e : ℕ) (next : Unit {0} → Payer) → Configured c e → p (policy c k e n) ≡ true
+      → (Unable e → Q (next tt)) → ((j : ℕ) → Pays p c ls k name n e j → Q (Payer.Local e j))
       → Q (payerOr (c .places) e from (firstLocal (c .order) (c .places) ls e from name n) next)
   unfolding firstLocal payerOr cyclic
-  class-ind e next ce pe rest = go (firstIn (λ d. hasEnough (c .order) (localAt ls (slot (c .places) e ((from + d) % localsOf (c .places) e))) name n) 0 (localsOf (c .places) e)) refl
+  class-ind Q e next ce pe rest local = go (firstIn (Has e) 0 (localsOf (c .places) e)) refl
     where
-      go : (x : Found) → firstIn (λ d. hasEnough (c .order) (localAt ls (slot (c .places) e ((from + d) % localsOf (c .places) e))) name n) 0 (localsOf (c .places) e) ≡ x → Q (payerOr (c .places) e from x next)
+      go : (x : Found) → firstIn (Has e) 0 (localsOf (c .places) e) ≡ x → Q (payerOr (c .places) e from x next)
       go (At d) h =
-          let s = first-sound (λ d. hasEnough (c .order) (localAt ls (slot (c .places) e ((from + d) % localsOf (c .places) e))) name n) 0 (localsOf (c .places) e) d h in
-          local e (slot (c .places) e ((from + d) % localsOf (c .places) e))
+          let s = first-sound (Has e) 0 (localsOf (c .places) e) d h in
+          local (slot (c .places) e ((from + d) % localsOf (c .places) e))
           (record {
             class = ce;
             passes = pe;
             index = (from + d) % localsOf (c .places) e;
             indexLt = mod-lt (from + d) (omega (arith, s .high));
-            place = refl;
+            is = refl;
             has = enough-fact (c .order) (localAt ls (slot (c .places) e ((from + d) % localsOf (c .places) e))) name n (s .passed);
           })
-      go Nothing h = rest
+      go Nothing h = rest (λ x lx.
+          let r = round-to (localsOf (c .places) e) from x lx in
+          subst (λ (y : ℕ). hasEnough (c .order) (localAt ls (slot (c .places) e y)) name n ≡ false) (r .1 .1)
+          (first-empty (Has e) 0 (localsOf (c .places) e) h (r .0) (omega arith) (omega (arith, r .1 .0))))
 
-  -- over the classes
-  pub payer-ind : (m i : ℕ) → Q (payerIn p c ls k from name n i m)
+  -- over the classes: a local pays, or none can
+  pub payer-both : (Q : Payer → Type 0) (m i : ℕ) → (Nobody i m → Q Payer.Nobody)
+      → ((d j : ℕ) → i ≤ d → d < i + m → Pays p c ls k name n ((k + d) % 8) j → Q (Payer.Local ((k + d) % 8) j)) → Q (payerIn p c ls k from name n i m)
   unfolding payerIn
-  payer-ind zero i = nobody
-  payer-ind (suc m) i =
+  payer-both Q zero i none pays = none (λ d a b. absurd (omega arith))
+  payer-both Q (suc m) i none pays =
       ifte-ind Q (both (configured (c .places) ((k + i) % 8)) (p (policy c k ((k + i) % 8) n))) _ _
-      (λ t. class-ind ((k + i) % 8) (λ _. payerIn p c ls k from name n (i + 1) m)
+      (λ t. class-ind Q ((k + i) % 8) _
       (configured-fact c ((k + i) % 8) (mod-lt (k + i) (omega arith)) (both-left (configured (c .places) ((k + i) % 8)) (p (policy c k ((k + i) % 8) n)) t))
       (both-right (configured (c .places) ((k + i) % 8)) (p (policy c k ((k + i) % 8) n)) t)
-      (payer-ind m (i + 1)))
-      (λ _. payer-ind m (i + 1))
+      (λ empty. payer-both Q m (i + 1)
+      (λ N. none (λ d a b cf ps. by-eq d i
+      (λ eq. subst (λ (y : ℕ). Unable ((k + y) % 8)) (sym eq) empty)
+      (λ ne. N d (omega arith) (omega arith) cf ps)))
+      (λ d j a b. pays d j (omega arith) (omega arith)))
+      (λ j P. pays i j (omega arith) (omega arith) P))
+      (λ f. payer-both Q m (i + 1)
+      (λ N. none (λ d a b cf ps. by-eq d i
+      (λ eq. true-false (both-true (configured (c .places) ((k + i) % 8)) (p (policy c k ((k + i) % 8) n))
+      (subst (λ (y : ℕ). configured (c .places) ((k + y) % 8) ≡ true) eq cf) (subst (λ (y : ℕ). p (policy c k ((k + y) % 8) n) ≡ true) eq ps)) f)
+      (λ ne. N d (omega arith) (omega arith) cf ps)))
+      (λ d j a b. pays d j (omega arith) (omega arith)))
+
+  -- the same, whoever pays
+  pub payer-ind : (Q : Payer → Type 0) → Q Payer.Nobody → ((e j : ℕ) → Pays p c ls k name n e j → Q (Payer.Local e j)) → (m i : ℕ) → Q (payerIn p c ls k from name n i m)
+  payer-ind Q nobody local m i = payer-both Q m i (λ _. nobody) (λ d j _ _ P. local ((k + d) % 8) j P)
+
+-- ---- the kinds of classes that pay, and of those whose reservation moves
+pub pay-kind : (d : Kind) → mayPay d ≡ true → (kindNumber d ≡ 1) ⊎ (kindNumber d ≡ 3)
+unfolding mayPay
+pay-kind Invalid e = true-false e refl
+pay-kind Steal e = inl refl
+pay-kind Demote e = true-false e refl
+pay-kind (Match r) e = inr refl
+
+pub move-kind : (d : Kind) → mayMove d ≡ true → kindNumber d ≡ 2
+unfolding mayMove
+move-kind Invalid e = true-false e refl
+move-kind Steal e = true-false e refl
+move-kind Demote e = refl
+move-kind (Match r) e = true-false e refl
+
+-- the other way
+pub kind-pay : (d : Kind) → (kindNumber d ≡ 1) ⊎ (kindNumber d ≡ 3) → mayPay d ≡ true
+unfolding mayPay
+kind-pay Invalid (inl e) = absurd (omega arith)
+kind-pay Invalid (inr e) = absurd (omega arith)
+kind-pay Steal e = refl
+kind-pay Demote (inl e) = absurd (omega arith)
+kind-pay Demote (inr e) = absurd (omega arith)
+kind-pay (Match r) e = refl
+
+pub kind-move : (d : Kind) → kindNumber d ≡ 2 → mayMove d ≡ true
+unfolding mayMove
+kind-move Invalid e = absurd (omega arith)
+kind-move Steal e = absurd (omega arith)
+kind-move Demote e = refl
+kind-move (Match r) e = absurd (omega arith)

@@ -39,6 +39,11 @@ unfolding ifte
 ifte-ind Q true x y h k = h refl
 ifte-ind Q false x y h k = k refl
 
+-- one of two values
+pub pick-ind : {A : Type 0} (Q : A → Type 0) (b : Bool) (x y : A) → (b ≡ true → Q x) → (b ≡ false → Q y) → Q (pick b x y)
+pick-ind Q true x y h k = h refl
+pick-ind Q false x y h k = k refl
+
 module _ {A : Type 0} (Q : A → Type 0) (s : State) where
   -- a steal from the entry of tree t by class k: x is the class that the entry has now
   pub steal-ind : (c : Config) (t k n : ℕ) (y : Tree → State → A) (m : State → A)

@@ -11,7 +11,7 @@ use lib.Seq.{getD-set-same, getD-set-other}
 use borrow.Author.Tests.{eqb-true, eqb-false}
 use Rattle.words.specs.Sums.{sum-more}
 use Rattle.rules.specs.Base.{pick, sum}
-use Rattle.rules.specs.Words.{treeFrames, treeCount, entryAt, localAt}
+use Rattle.rules.specs.Words.{treeFrames, entryAt, localAt}
 use Rattle.ways.specs.Standing.{treeOn}
 
 -- of tree t, if its entry has class k: its free
@@ -98,8 +98,3 @@ module _ (f : ℕ → ℕ → ℕ) (m : ℕ) where
       let p : getD a k 0 ≤ m * n = s .most k b in
       let q : m * n ≤ 2 ^ 28 * n = mul-le-mul-right n h in
       omega arith
-
--- the number of trees is at most 1,024
-pub trees-few : (f : ℕ) → f ≤ 2 ^ 21 → treeCount 11 f ≤ 1024
-unfolding treeCount
-trees-few f h = omega arith

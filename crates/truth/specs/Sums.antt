@@ -1,7 +1,6 @@
--- Sums of one term, over the places of locals, of a local's share over the trees, and over the trees of a class. Assumes nothing.
+-- Sums over the places of locals, of a local's share over the trees, and over the trees of a class. Assumes nothing.
 use mathlib.Core.Path.{_≡_, refl, sym, ap, _∙_}
 use mathlib.Core.Bool.{Bool, true, false}
-use mathlib.Core.Logic.{_≢_}
 use mathlib.Core.List.{List}
 use Prim.Native.Nat.{ℕ, zero, suc, _+_, _*_, _<_}
 use native.Mathlib.Nat.{zero-add, mul-comm, add-mul, zero-mul}
@@ -14,14 +13,9 @@ use Rattle.rules.specs.declared.Local.{Local}
 use Rattle.ways.specs.Standing.{treeOn}
 use Rattle.ways.specs.Statistics.{overClass}
 use Rattle.lower_laws.specs.Sum.{sum-add, sum-shift, sum-zero, sum-ext}
-use Rattle.word_laws.specs.Sums.{sum-change, sum-plus, sum-swap}
+use Rattle.word_laws.specs.Sums.{sum-only, sum-plus, sum-swap}
 use Rattle.hand.specs.Hand.{share}
 use Rattle.moves.specs.Here.{here-same, here-other, share-here, share-none}
-
--- only the term at a is not 0
-pub sum-only : (g : ℕ → ℕ) (n a : ℕ) → a < n → ((i : ℕ) → i ≢ a → g i ≡ 0) → sum g 0 n ≡ g a
-sum-only g n a h z =
-    omega (arith, sum-change (λ i. 0) g 0 n a (omega arith) (omega arith) (λ i ne. sym (z i ne)), sum-zero (λ i. 0) 0 n (λ i l m. refl))
 
 -- over the locals by class, then index: over all locals
 pub sum-slots : (ps : List ℕ) (g : ℕ → ℕ) (m : ℕ) → sum (λ k. sum (λ i. g (slot ps k i)) 0 (localsOf ps k)) 0 m ≡ sum g 0 (sum (localsOf ps) 0 m)

@@ -1,3 +1,4 @@
--- laws of the walk, with no program in them
-pub mod Looks
+-- the walk: it visits every tree once, its looks are its steps, and its list is the best of what was offered
 pub mod Places
+pub mod Looks
+pub mod Best

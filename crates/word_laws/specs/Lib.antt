@@ -2,5 +2,6 @@
 pub mod Sizes
 pub mod Words
 pub mod Sums
+pub mod Round
 pub mod Lists
 pub mod Slots

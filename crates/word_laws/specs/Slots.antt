@@ -7,6 +7,7 @@ use native.Mathlib.Omega.{arith}
 use native.Mathlib.Decide.{decLt}
 use Rattle.rules.specs.Base.{sum}
 use Rattle.rules.specs.Words.{localsOf, slot, localCount}
+use Rattle.lower_laws.specs.Cases.{neither-below}
 use Rattle.word_laws.specs.Sums.{sum-prefix}
 
 -- the place j is that of index i of class k
@@ -57,12 +58,7 @@ module _ (ps : List ℕ) where
   before k i m x h hi = omega (arith, sum-prefix (localsOf ps) 0 (suc k) m h, next (localsOf ps) k)
 
   pub slot-class : (k i m x : ℕ) → i < localsOf ps k → x < localsOf ps m → slot ps k i ≡ slot ps m x → k ≡ m
-  slot-class k i m x hi hx e = go (decLt k m) (decLt m k)
-    where
-      go : Dec (k < m) → Dec (m < k) → k ≡ m
-      go (yes l) d = absurd (omega (arith, before k i m x l hi))
-      go (no l) (yes r) = absurd (omega (arith, before m x k i r hx))
-      go (no l) (no r) = omega arith
+  slot-class k i m x hi hx e = neither-below k m (λ l. omega (arith, before k i m x l hi)) (λ l. omega (arith, before m x k i l hx))
 
   -- the next index is the next place
   pub slot-next : (k i : ℕ) → slot ps k (i + 1) ≡ slot ps k i + 1

@@ -1,9 +1,10 @@
--- Laws of sums over numbers: one term, one term changed, two sums of terms, sums exchanged, equal totals. Assumes nothing.
+-- Laws of sums over numbers: one term, one changed, one alone, two of them, two sums of terms, sums exchanged, equal totals. Assumes nothing.
 use mathlib.Core.Path.{_≡_, refl, sym, ap}
-use mathlib.Core.Logic.{⊎-elim, _≢_}
+use mathlib.Core.Logic.{_⊎_, inl, inr, ⊎-elim, _≢_}
 use Prim.Native.Nat.{ℕ, zero, suc, _+_, _<_, _≤_}
 use native.Mathlib.Nat.{eq-or-lt-of-le}
 use native.Mathlib.Omega.{arith}
+use native.Mathlib.Decide.{decLt}
 use Rattle.rules.specs.Base.{sum}
 use Rattle.lower_laws.specs.Sum.{sum-ext, sum-zero}
 
@@ -32,6 +33,39 @@ sum-change f g a (suc n) j l m same =
     let u : f (a + n) ≡ g (a + n) = same (a + n) (λ d. omega arith) in
     omega arith)
     (eq-or-lt-of-le k)
+
+-- all terms but one are nothing
+pub sum-only : (f : ℕ → ℕ) (n j : ℕ) → j < n → ((i : ℕ) → i ≢ j → f i ≡ 0) → sum f 0 n ≡ f j
+sum-only f n j lt h =
+    omega (
+      arith,
+      sum-change (λ i. 0) f 0 n j (omega arith) (omega arith) (λ i ne. sym (h i ne)),
+      sum-zero (λ i. 0) 0 n (λ i x y. refl),
+    )
+
+-- two terms are at most the sum
+pub sum-two : (f : ℕ → ℕ) (n i j : ℕ) → i < j → j < n → f i + f j ≤ sum f 0 n
+unfolding sum
+sum-two f zero i j l m = absurd (omega arith)
+sum-two f (suc n) i j l m =
+    let k : j ≤ n = omega arith in
+    let z : 0 + n ≡ n = omega arith in
+    let t : f (0 + n) ≡ f n = ap f z in
+    ⊎-elim
+    (λ q. (let e : f j ≡ f n = ap f q in omega (arith, e, t, sum-ge f 0 n i (omega arith) (omega arith))))
+    (λ r. omega (arith, sum-two f n i j l r))
+    (eq-or-lt-of-le k)
+
+-- a sum is nothing, or has a term that is something
+pub sum-find : (f : ℕ → ℕ) (n : ℕ) → (sum f 0 n ≡ 0) ⊎ ((j : ℕ) × ((j < n) × (0 < f j)))
+unfolding sum
+sum-find f zero = inl refl
+sum-find f (suc n) = go (sum-find f n) (decLt 0 (f n))
+  where
+    go : (sum f 0 n ≡ 0) ⊎ ((j : ℕ) × ((j < n) × (0 < f j))) → Dec (0 < f n) → (sum f 0 n + f (0 + n) ≡ 0) ⊎ ((j : ℕ) × ((j < suc n) × (0 < f j)))
+    go (inr (j, (l, p))) d = inr (j, (omega arith, p))
+    go (inl e) (yes p) = inr (n, (omega arith, p))
+    go (inl e) (no p) = inl (let z : 0 + n ≡ n = omega arith in let t : f (0 + n) ≡ f n = ap f z in omega arith)
 
 -- the sum of two sums
 pub sum-plus : (f g : ℕ → ℕ) (a n : ℕ) → sum (λ i. f i + g i) a n ≡ sum f a n + sum g a n

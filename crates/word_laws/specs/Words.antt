@@ -2,7 +2,7 @@
 use mathlib.Core.Path.{_≡_, refl}
 use mathlib.Core.Bool.{Bool, true, false}
 use mathlib.Core.List.{List}
-use Prim.Native.Nat.{ℕ, _+_, _-_, _*_, _/_, _%_, _^_, _<_, _≤_}
+use Prim.Native.Nat.{ℕ, _+_, _*_, _/_, _%_, _^_, _<_, _≤_}
 use native.Mathlib.Nat.{mod-eq-of-lt}
 use native.Mathlib.Omega.{arith}
 use native.Mathlib.Decide.{decLt}
@@ -69,9 +69,9 @@ pub bit-true : (b : Bool) → bitOf b ≡ 1 → b ≡ true
 bit-true true e = refl
 bit-true false e = absurd (omega arith)
 
-pub bit-le : (b : Bool) → bitOf b ≤ 1
-bit-le true = omega arith
-bit-le false = omega arith
+pub bitOf-le : (b : Bool) → bitOf b ≤ 1
+bitOf-le true = omega arith
+bitOf-le false = omega arith
 
 pub bit-false : (b : Bool) → bitOf b ≡ 0 → b ≡ false
 bit-false true e = absurd (omega arith)

@@ -5,7 +5,6 @@ use native.Mathlib.Omega.{arith}
 use native.Mathlib.Nat.{one-mul}
 use lib.Pow.{shl-exact}
 use lib.Dec.{lit<}
-use mathlib.Core.Path.{refl}
 use borrow.Author.Needs.{needs}
 use Rattle.best.proofs.size.Statement.{statement}
 use Rattle.best.proofs.size.Tie as tie

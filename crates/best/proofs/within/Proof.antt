@@ -1,5 +1,5 @@
 -- `best::within` meets its contract: a remainder is at most one subtraction where x is below 2n. Assumes nothing.
-use mathlib.Core.Path.{_≡_, refl, sym, _∙_}
+use mathlib.Core.Path.{refl, sym, _∙_}
 use native.Mathlib.Nat.{mod-lt, mod-eq-of-lt, mod-eq-sub-mod}
 use borrow.Author.Needs.{needs}
 use Rattle.best.proofs.within.Statement.{statement}

@@ -1,7 +1,7 @@
 -- `llfree::drain` meets its contract. Assumes nothing.
 use mathlib.Core.Path.{sym, _∙_}
 use Rattle.ways.specs.Calls.{outcomeOf, numberOf}
-use Rattle.llfree.specs.Tested.{standing-accepted, default-small}
+use Rattle.step_laws.specs.Tested.{standing-accepted, default-small}
 use Rattle.rules.specs.Base.{ifte}
 use Rattle.ways.specs.Calls.{drain, ifStanding}
 use borrow.Author.Needs.{needs}

@@ -2,7 +2,8 @@
 use mathlib.Core.Path.{sym, _∙_}
 use Rattle.ways.specs.Calls.{numberOf}
 use Rattle.puts.specs.Checked.{checked-fits}
-use Rattle.llfree.specs.Tested.{standing-accepted, done-checked, refusal-told}
+use Rattle.step_laws.specs.Tested.{standing-accepted}
+use Rattle.llfree.specs.Refusals.{done-checked, refusal-told}
 use Rattle.rules.specs.Base.{ifte}
 use Rattle.ways.specs.Calls.{put, ifStanding, unless, outcomeOf}
 use borrow.Author.Needs.{needs}

@@ -2,7 +2,7 @@
 use mathlib.Core.Path.{sym, ap, _∙_}
 use Rattle.ways.specs.State.{State}
 use Rattle.ways.specs.Calls.{telling, outcomeOf, numberOf}
-use Rattle.llfree.specs.Tested.{frames-small, trees-exact, locals-exact, bits-exact}
+use Rattle.step_laws.specs.Tested.{lengths-say, frames-small}
 use Rattle.rules.specs.Base.{ifte}
 use Rattle.ways.specs.Calls.{start}
 use borrow.Author.Needs.{needs}
@@ -17,8 +17,8 @@ lengths-exact-requires c κs = frames-small _ _ (sym (c .before .before .before 
 
 start-body-requires : tie.Need-start-body-requires
 start-body-requires c κs =
-    let e = sym (c .before .before .before .before .lengths-exact .ensures) ∙ c .before .before .before .if2 .taken in
-    (frames-small _ _ (sym (c .before .before .before .before .before .before .before .before .before .accepts .ensures) ∙ c .before .before .before .before .before .before .before .before .if1 .taken), (trees-exact _ _ _ _ e, (locals-exact _ _ _ _ e, bits-exact _ _ _ _ e)))
+    let l = lengths-say _ _ _ _ (sym (c .before .before .before .before .lengths-exact .ensures) ∙ c .before .before .before .if2 .taken) in
+    (frames-small _ _ (sym (c .before .before .before .before .before .before .before .before .before .accepts .ensures) ∙ c .before .before .before .before .before .before .before .before .if1 .taken), (l .treeWords, (l .localWords, l .bitWords)))
 
 same-length : tie.Need-same-length
 same-length c = search needs

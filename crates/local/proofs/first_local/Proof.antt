@@ -7,7 +7,8 @@ use native.Mathlib.Omega.{arith}
 use borrow.Author.Needs.{needs}
 use Rattle.rules.specs.Base.{firstIn}
 use Rattle.rules.specs.declared.Found.the-variants.{Nothing}
-use Rattle.local.specs.Loops.{enough, round, first-more, payer-nobody, payer-here, round-first, round-lt, round-next}
+use Rattle.lower_laws.specs.First.{first-more}
+use Rattle.local.specs.Loops.{enough, round, payer-nobody, payer-here, round-first, round-lt, round-next}
 use Rattle.local.proofs.first_local.Statement.{statement}
 use Rattle.local.proofs.first_local.Tie as tie
 

@@ -1,7 +1,8 @@
 -- `statistics::tell` meets its contract: each return is the report. Assumes nothing.
 use mathlib.Core.Path.{sym, _∙_}
 use Rattle.rules.specs.Base.{ifte}
-use Rattle.statistics.specs.Report.{reportOf, standing-small}
+use Rattle.step_laws.specs.Tested.{standing-accepted, frames-small}
+use Rattle.statistics.specs.Report.{reportOf}
 use borrow.Author.Tests.{eq-eqb, ne-eqb}
 use borrow.Author.Needs.{needs}
 use Rattle.statistics.proofs.tell.Statement.{statement}
@@ -11,10 +12,10 @@ stands-requires : tie.Need-stands-requires
 stands-requires c κs = search needs
 
 totals-requires : tie.Need-totals-requires
-totals-requires c κs = standing-small _ _ _ _ _ (sym (c .before .before .stands .ensures) ∙ c .before .if1 .taken)
+totals-requires c κs = frames-small _ _ (standing-accepted _ _ _ _ (sym (c .before .before .stands .ensures) ∙ c .before .if1 .taken))
 
 all-rows-requires : tie.Need-all-rows-requires
-all-rows-requires c κs = standing-small _ _ _ _ _ (sym (c .before .before .before .stands .ensures) ∙ c .before .before .if1 .taken)
+all-rows-requires c κs = frames-small _ _ (standing-accepted _ _ _ _ (sym (c .before .before .before .stands .ensures) ∙ c .before .before .if1 .taken))
 
 returns : tie.Need-returns
 unfolding reportOf ifte

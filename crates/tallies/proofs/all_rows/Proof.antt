@@ -4,7 +4,8 @@ use Prim.Native.Nat.{ℕ, _<_, _≤_}
 use native.Mathlib.Omega.{arith}
 use Rattle.rules.specs.Words.{config, localCount}
 use Rattle.ways.specs.Statistics.{localFree, tally}
-use Rattle.tallies.specs.Sums.{trees-few, summed-few}
+use Rattle.policy_laws.specs.Count.{count-most}
+use Rattle.tallies.specs.Sums.{summed-few}
 use Rattle.tallies.specs.Rows.{rowOf, row-is, eight}
 use borrow.Author.Needs.{needs}
 use Rattle.tallies.proofs.all_rows.Statement.{statement}
@@ -14,7 +15,7 @@ tree-count-requires : tie.Need-tree-count-requires
 tree-count-requires c κs = search needs
 
 entries-by-class-requires : tie.Need-entries-by-class-requires
-entries-by-class-requires c κs = rw (c .tree-count .ensures) (trees-few _ (c .before .before .before .pre))
+entries-by-class-requires c κs = rw (c .tree-count .ensures) (count-most 11 _ (c .before .before .before .pre))
 
 first-slot-requires : tie.Need-first-slot-requires
 first-slot-requires c κs = search needs
@@ -25,49 +26,49 @@ reserved-by-class-requires c κs = search needs
 class-row-requires : tie.Need-class-row-requires
 class-row-requires c κs =
     let e = c .before .before .entries-by-class .ensures in
-    let n : c .before .before .before .tree-count .result ≤ 1024 = rw (c .before .before .before .tree-count .ensures) (trees-few _ (c .before .before .before .before .before .before .pre)) in
+    let n : c .before .before .before .tree-count .result ≤ 1024 = rw (c .before .before .before .tree-count .ensures) (count-most 11 _ (c .before .before .before .before .before .before .pre)) in
     (search needs, (summed-few _ _ _ _ (omega arith) n (e .0) 0 (omega arith), summed-few _ _ _ _ (omega arith) n (e .1 .1) 0 (omega arith)))
 
 class-row-requires-2 : tie.Need-class-row-requires-2
 class-row-requires-2 c κs =
     let e = c .before .before .before .entries-by-class .ensures in
-    let n : c .before .before .before .before .tree-count .result ≤ 1024 = rw (c .before .before .before .before .tree-count .ensures) (trees-few _ (c .before .before .before .before .before .before .before .pre)) in
+    let n : c .before .before .before .before .tree-count .result ≤ 1024 = rw (c .before .before .before .before .tree-count .ensures) (count-most 11 _ (c .before .before .before .before .before .before .before .pre)) in
     (search needs, (summed-few _ _ _ _ (omega arith) n (e .0) 1 (omega arith), summed-few _ _ _ _ (omega arith) n (e .1 .1) 1 (omega arith)))
 
 class-row-requires-3 : tie.Need-class-row-requires-3
 class-row-requires-3 c κs =
     let e = c .before .before .before .before .entries-by-class .ensures in
-    let n : c .before .before .before .before .before .tree-count .result ≤ 1024 = rw (c .before .before .before .before .before .tree-count .ensures) (trees-few _ (c .before .before .before .before .before .before .before .before .pre)) in
+    let n : c .before .before .before .before .before .tree-count .result ≤ 1024 = rw (c .before .before .before .before .before .tree-count .ensures) (count-most 11 _ (c .before .before .before .before .before .before .before .before .pre)) in
     (search needs, (summed-few _ _ _ _ (omega arith) n (e .0) 2 (omega arith), summed-few _ _ _ _ (omega arith) n (e .1 .1) 2 (omega arith)))
 
 class-row-requires-4 : tie.Need-class-row-requires-4
 class-row-requires-4 c κs =
     let e = c .before .before .before .before .before .entries-by-class .ensures in
-    let n : c .before .before .before .before .before .before .tree-count .result ≤ 1024 = rw (c .before .before .before .before .before .before .tree-count .ensures) (trees-few _ (c .before .before .before .before .before .before .before .before .before .pre)) in
+    let n : c .before .before .before .before .before .before .tree-count .result ≤ 1024 = rw (c .before .before .before .before .before .before .tree-count .ensures) (count-most 11 _ (c .before .before .before .before .before .before .before .before .before .pre)) in
     (search needs, (summed-few _ _ _ _ (omega arith) n (e .0) 3 (omega arith), summed-few _ _ _ _ (omega arith) n (e .1 .1) 3 (omega arith)))
 
 class-row-requires-5 : tie.Need-class-row-requires-5
 class-row-requires-5 c κs =
     let e = c .before .before .before .before .before .before .entries-by-class .ensures in
-    let n : c .before .before .before .before .before .before .before .tree-count .result ≤ 1024 = rw (c .before .before .before .before .before .before .before .tree-count .ensures) (trees-few _ (c .before .before .before .before .before .before .before .before .before .before .pre)) in
+    let n : c .before .before .before .before .before .before .before .tree-count .result ≤ 1024 = rw (c .before .before .before .before .before .before .before .tree-count .ensures) (count-most 11 _ (c .before .before .before .before .before .before .before .before .before .before .pre)) in
     (search needs, (summed-few _ _ _ _ (omega arith) n (e .0) 4 (omega arith), summed-few _ _ _ _ (omega arith) n (e .1 .1) 4 (omega arith)))
 
 class-row-requires-6 : tie.Need-class-row-requires-6
 class-row-requires-6 c κs =
     let e = c .before .before .before .before .before .before .before .entries-by-class .ensures in
-    let n : c .before .before .before .before .before .before .before .before .tree-count .result ≤ 1024 = rw (c .before .before .before .before .before .before .before .before .tree-count .ensures) (trees-few _ (c .before .before .before .before .before .before .before .before .before .before .before .pre)) in
+    let n : c .before .before .before .before .before .before .before .before .tree-count .result ≤ 1024 = rw (c .before .before .before .before .before .before .before .before .tree-count .ensures) (count-most 11 _ (c .before .before .before .before .before .before .before .before .before .before .before .pre)) in
     (search needs, (summed-few _ _ _ _ (omega arith) n (e .0) 5 (omega arith), summed-few _ _ _ _ (omega arith) n (e .1 .1) 5 (omega arith)))
 
 class-row-requires-7 : tie.Need-class-row-requires-7
 class-row-requires-7 c κs =
     let e = c .before .before .before .before .before .before .before .before .entries-by-class .ensures in
-    let n : c .before .before .before .before .before .before .before .before .before .tree-count .result ≤ 1024 = rw (c .before .before .before .before .before .before .before .before .before .tree-count .ensures) (trees-few _ (c .before .before .before .before .before .before .before .before .before .before .before .before .pre)) in
+    let n : c .before .before .before .before .before .before .before .before .before .tree-count .result ≤ 1024 = rw (c .before .before .before .before .before .before .before .before .before .tree-count .ensures) (count-most 11 _ (c .before .before .before .before .before .before .before .before .before .before .before .before .pre)) in
     (search needs, (summed-few _ _ _ _ (omega arith) n (e .0) 6 (omega arith), summed-few _ _ _ _ (omega arith) n (e .1 .1) 6 (omega arith)))
 
 class-row-requires-8 : tie.Need-class-row-requires-8
 class-row-requires-8 c κs =
     let e = c .before .before .before .before .before .before .before .before .before .entries-by-class .ensures in
-    let n : c .before .before .before .before .before .before .before .before .before .before .tree-count .result ≤ 1024 = rw (c .before .before .before .before .before .before .before .before .before .before .tree-count .ensures) (trees-few _ (c .before .before .before .before .before .before .before .before .before .before .before .before .before .pre)) in
+    let n : c .before .before .before .before .before .before .before .before .before .before .tree-count .result ≤ 1024 = rw (c .before .before .before .before .before .before .before .before .before .before .tree-count .ensures) (count-most 11 _ (c .before .before .before .before .before .before .before .before .before .before .before .before .before .pre)) in
     (search needs, (summed-few _ _ _ _ (omega arith) n (e .0) 7 (omega arith), summed-few _ _ _ _ (omega arith) n (e .1 .1) 7 (omega arith)))
 
 returns : tie.Need-returns

@@ -2,7 +2,8 @@
 use borrow.Author.Needs.{needs}
 use Rattle.rules.specs.Words.{localCount}
 use Rattle.ways.specs.Statistics.{totalFree, freeTrees}
-use Rattle.tallies.specs.Sums.{entriesFree, entriesWhole, localsFree, localsWhole, trees-few}
+use Rattle.policy_laws.specs.Count.{count-most}
+use Rattle.tallies.specs.Sums.{entriesFree, entriesWhole, localsFree, localsWhole}
 use Rattle.tallies.proofs.totals.Statement.{statement}
 use Rattle.tallies.proofs.totals.Tie as tie
 
@@ -10,7 +11,7 @@ tree-count-requires : tie.Need-tree-count-requires
 tree-count-requires c κs = search needs
 
 entries-whole-requires : tie.Need-entries-whole-requires
-entries-whole-requires c κs = rw (c .tree-count .ensures) (trees-few _ (c .before .before .before .pre))
+entries-whole-requires c κs = rw (c .tree-count .ensures) (count-most 11 _ (c .before .before .before .pre))
 
 first-slot-requires : tie.Need-first-slot-requires
 first-slot-requires c κs = search needs

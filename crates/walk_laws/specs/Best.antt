@@ -1,24 +1,19 @@
 -- Laws of the list of the best: it is the best m of all that was offered; best first; equals in found order; what a full list admits. Assumes nothing.
 use mathlib.Core.Path.{_≡_, refl, ap, _∙_}
 use mathlib.Core.Bool.{Bool, true, false}
+use mathlib.Core.Logic.{⊎-elim}
 use mathlib.Core.List.{List, [], _∷_, _++_, append-nil}
-use Prim.Native.Nat.{ℕ, zero, suc, _+_, _<_, _≤_}
+use Prim.Native.Nat.{ℕ, zero, suc, _<_, _≤_}
 use native.Mathlib.Omega.{arith}
 use lib.ListN.{length, take}
 use lib.Seq.{take-take, take-at}
 use lib.Dec.{ltb}
-use borrow.Author.Tests.{lt-ltb, le-ltb, ltb-true, ltb-false}
+use borrow.Author.Tests.{lt-ltb, le-ltb}
 use Rattle.rules.specs.Base.{ifte}
 use Rattle.ways.specs.Walk.{Candidate, rated, insert, admit}
+use Rattle.lower_laws.specs.Cases.{below-or}
 
 -- the test of an insertion, and what it tells
-by : {X : Type 0} (k key : ℕ) → (k < key → X) → (key ≤ k → X) → X
-by {X} k key p q = go (ltb k key) refl
-  where
-    go : (b : Bool) → ltb k key ≡ b → X
-    go true e = p (ltb-true k key e)
-    go false e = q (ltb-false k key e)
-
 worse : (k u key t : ℕ) (xs : List Candidate) → k < key → insert key t (rated k u ∷ xs) ≡ rated key t ∷ rated k u ∷ xs
 unfolding insert ifte
 worse k u key t xs h = rw (lt-ltb k key h)
@@ -73,7 +68,7 @@ insert-sorted : (top key t : ℕ) (xs : List Candidate) → Sorted top xs → ke
 unfolding Sorted insert
 insert-sorted top key t [] s h = (h, tt)
 insert-sorted top key t (rated k u ∷ xs) s h =
-    by k key (λ l. rw (worse k u key t xs l) (h, (omega arith, s .1))) (λ l. rw (other k u key t xs l) (s .0, insert-sorted k key t xs (s .1) l))
+    ⊎-elim (λ l. rw (worse k u key t xs l) (h, (omega arith, s .1))) (λ l. rw (other k u key t xs l) (s .0, insert-sorted k key t xs (s .1) l)) (below-or k key)
 
 take-sorted : (m top : ℕ) (xs : List Candidate) → Sorted top xs → Sorted top (take m xs)
 unfolding Sorted
@@ -108,17 +103,18 @@ full-keeps m key t xs full a =
     let e : insert key t xs ≡ xs ++ rated key t ∷ [] = (rw (append-nil xs) at (insert-behind key t xs [] a)) in
     rw e (take-at xs (rated key t ∷ []) m full)
 
-insert-length : (key t : ℕ) (xs : List Candidate) → length (insert key t xs) ≡ suc (length xs)
+pub insert-length : (key t : ℕ) (xs : List Candidate) → length (insert key t xs) ≡ suc (length xs)
 unfolding insert
 insert-length key t [] = refl
-insert-length key t (rated k u ∷ xs) = by k key (λ l. rw (worse k u key t xs l)) (λ l. rw (other k u key t xs l) (ap suc (insert-length key t xs)))
+insert-length key t (rated k u ∷ xs) = ⊎-elim (λ l. rw (worse k u key t xs l)) (λ l. rw (other k u key t xs l) (ap suc (insert-length key t xs))) (below-or k key)
 
 insert-front : (key t k u : ℕ) (xs : List Candidate) → k < key → insert key t (xs ++ rated k u ∷ []) ≡ insert key t xs ++ rated k u ∷ []
 unfolding insert
 insert-front key t k u [] h = worse k u key t [] h
 insert-front key t k u (rated j w ∷ xs) h =
-    by j key (λ l. rw (worse j w key t xs l, worse j w key t (xs ++ rated k u ∷ []) l))
+    ⊎-elim (λ l. rw (worse j w key t xs l, worse j w key t (xs ++ rated k u ∷ []) l))
     (λ l. rw (other j w key t xs l, other j w key t (xs ++ rated k u ∷ []) l) (ap (λ (r : List Candidate). rated j w ∷ r) (insert-front key t k u xs h)))
+    (below-or j key)
 
 -- one that is better than its last, which it drops
 pub full-drops : (m key t k u : ℕ) (xs : List Candidate) → suc (length xs) ≡ m → k < key → admit m key t (xs ++ rated k u ∷ []) ≡ insert key t xs

@@ -1,0 +1,93 @@
+-- Demand 3 for the archive: chains of its calls, and the same chains with outcomes where the archive answers numbers. Assumes nothing.
+use mathlib.Core.Path.{_≡_}
+use mathlib.Core.Bool.{Bool}
+use mathlib.Core.List.{List, [], _∷_}
+use Prim.Native.Nat.{ℕ, zero, suc}
+use lib.Dec.{eqb}
+use lib.ListN.{replicate}
+use Rattle.rules.specs.Base.{pick}
+use Rattle.rules.specs.declared.Header.{Header}
+use Rattle.rules.specs.declared.Name.{Name}
+use Rattle.rules.specs.declared.Request.{Request}
+use Rattle.ways.specs.declared.Outcome.{Outcome}
+use Rattle.ways.specs.declared.Outcome.the-variants as Outcome
+use Rattle.ways.specs.declared.Granted.{Granted}
+use Rattle.ways.specs.declared.Granted.the-variants as Granted
+use Rattle.ways.specs.declared.Tally.{Tally}
+use Rattle.ways.specs.declared.Totals.{Totals}
+use Rattle.ways.specs.Promises.{Words}
+use Rattle.tallies.specs.Rows.{rowList}
+use Rattle.complete.specs.Complete.{refusalOf}
+use Rattle.sequence.specs.Demand.{Step, NoRestart, NoneStuck, Demand3}
+use Rattle.sequence.specs.Demand as Demand
+use Rattle.ffi.specs.declared.Answer.{Answer}
+use Rattle.ffi.specs.declared.Figures.{Figures}
+use Rattle.ffi.specs.Promises.{StartNumber, GetAnswer, PutNumber, DrainNumber, FiguresAnswer}
+
+-- ---- a chain of the archive's calls, each on the words as the call before left them
+
+-- a call, as the caller sees it: what was asked, and the numbers that were answered. A start in the chain names a header and a table of its own
+pub data Call : Type 0 where
+  gets : Name → Request → Answer → Call
+  puts : ℕ → Request → ℕ → Call
+  drains : ℕ → Call
+  counts : ℕ → Figures → Call
+  starts : Header → List ℕ → Bool → ℕ → Call
+
+-- from the words s to the words e the call satisfies the promise of the archive's function
+abbrev pub Answered : Header → List ℕ → Call → Words → Words → Type 0
+Answered h pairs (gets name q r) s e = GetAnswer h pairs name q s r e
+Answered h pairs (puts f q r) s e = PutNumber h pairs f q s r e
+Answered h pairs (drains r) s e = DrainNumber h pairs s r e
+Answered h pairs (counts n r) s e = FiguresAnswer h pairs s n r × (e ≡ s)
+Answered h pairs (starts h' pairs' free r) s e = StartNumber h' pairs' free s r e
+
+-- every call of the chain
+abbrev pub Calls : Header → List ℕ → List Call → Words → Words → Type 0
+Calls h pairs [] s e = e ≡ s
+Calls h pairs (x ∷ xs) s e = (m : Words) × (Answered h pairs x s m × Calls h pairs xs m e)
+
+-- ---- numbers as outcomes
+
+-- 0 is Done, another number is that of a refusal
+abbrev pub outcomeFrom : ℕ → Outcome
+outcomeFrom zero = Outcome.Done
+outcomeFrom (suc n) = Outcome.Refused (refusalOf (suc n))
+
+-- of a get, with its frame and class
+abbrev pub grantedFrom : ℕ → ℕ → ℕ → Granted
+grantedFrom zero f k = Granted.Done f k
+grantedFrom (suc n) f k = Granted.Refused (refusalOf (suc n))
+
+-- n rows of zeros
+abbrev pub emptyRows : ℕ → List Tally
+emptyRows n = replicate n (record { free = 0; alloc = 0; used = 0 })
+
+-- statistics by value: the outcome, total free and free trees
+abbrev pub totalsFrom : Figures → Totals
+totalsFrom r = record { outcome = outcomeFrom (r .number); free = r .free; trees = r .trees }
+
+-- and the rows, which a refusal leaves
+abbrev pub rowsFrom : ℕ → Figures → List Tally
+rowsFrom n r = pick (eqb (r .number) 0) (rowList (r .rows)) (emptyRows n)
+
+-- the call as a step of the chains of crate `sequence`
+abbrev pub stepOf : Call → Step
+stepOf (gets name q r) = Demand.gets name q (record { granted = grantedFrom (r .number) (r .frame) (r .class); looks = r .looks; tries = r .tries })
+stepOf (puts f q r) = Demand.puts f q (outcomeFrom r)
+stepOf (drains r) = Demand.drains (outcomeFrom r)
+stepOf (counts n r) = Demand.counts (emptyRows n) (totalsFrom r) (rowsFrom n r)
+stepOf (starts h pairs free r) = Demand.starts h pairs free (outcomeFrom r)
+
+-- all of them
+abbrev pub steps : List Call → List Step
+steps [] = []
+steps (x ∷ xs) = stepOf x ∷ steps xs
+
+-- ---- the statement
+
+-- a start that answers 0, then any chain of the archive's calls with no further accepted start: demand 3, and no call is Stuck
+abbrev pub ArchiveSequence : Type 0
+ArchiveSequence = (h : Header) (pairs : List ℕ) (free : Bool) (s0 s e : Words) (xs : List Call)
+    → StartNumber h pairs free s0 0 s → NoRestart (steps xs) → Calls h pairs xs s e
+    → Demand3 11 (h .frames) free (steps xs) e × NoneStuck (steps xs)

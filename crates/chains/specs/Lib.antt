@@ -1,0 +1,4 @@
+-- chains of the archive's calls, to be read
+pub mod Chains
+-- they are chains of the promises
+pub mod Archive

@@ -1,0 +1,1 @@
+// Demand 3 for the calls of the archive: in specs/. No function.
