@@ -1,7 +1,7 @@
 -- `llfree::put` meets its contract. Assumes nothing.
 use mathlib.Core.Path.{sym, _∙_}
 use Rattle.ways.specs.Calls.{numberOf}
-use Rattle.puts.specs.Checked.{checked-fits}
+use Rattle.checks.specs.Checked.{checked-fits}
 use Rattle.llfree.specs.Tested.{standing-accepted, done-checked, refusal-told}
 use Rattle.rules.specs.Base.{ifte}
 use Rattle.ways.specs.Calls.{put, ifStanding, unless, outcomeOf}

@@ -4,7 +4,8 @@ use Prim.Native.Nat.{ℕ, _<_, _≤_}
 use native.Mathlib.Omega.{arith}
 use Rattle.rules.specs.Words.{config, localCount}
 use Rattle.ways.specs.Statistics.{localFree, tally}
-use Rattle.tallies.specs.Sums.{trees-few, summed-few}
+use Rattle.tallies.specs.Sums.{summed-few}
+use Rattle.totals.specs.Wholes.{trees-few}
 use Rattle.tallies.specs.Rows.{rowOf, row-is, eight}
 use borrow.Author.Needs.{needs}
 use Rattle.tallies.proofs.all_rows.Statement.{statement}
