@@ -1,9 +1,9 @@
--- `search::near` meets its contract. Assumes nothing.
+-- `spans::near` meets its contract. Assumes nothing.
 use Rattle.ways.specs.Search.{near}
 use borrow.Author.Needs.{needs}
 use borrow.Author.Tests.{le-ltb, lt-ltb}
-use Rattle.search.proofs.near.Statement.{statement}
-use Rattle.search.proofs.near.Tie as tie
+use Rattle.spans.proofs.near.Statement.{statement}
+use Rattle.spans.proofs.near.Tie as tie
 
 returns : tie.Need-returns
 unfolding near

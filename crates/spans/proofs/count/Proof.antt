@@ -1,8 +1,8 @@
--- `search::count` meets its contract: frames of an accepted header. Assumes nothing.
-use Rattle.search.specs.Count.{count-some, count-most}
+-- `spans::count` meets its contract: frames of an accepted header. Assumes nothing.
+use Rattle.spans.specs.Count.{count-some, count-most}
 use borrow.Author.Needs.{needs}
-use Rattle.search.proofs.count.Statement.{statement}
-use Rattle.search.proofs.count.Tie as tie
+use Rattle.spans.proofs.count.Statement.{statement}
+use Rattle.spans.proofs.count.Tie as tie
 
 tree-count-requires : tie.Need-tree-count-requires
 tree-count-requires c κs = search needs

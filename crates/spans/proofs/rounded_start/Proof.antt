@@ -1,13 +1,13 @@
--- `search::rounded_start` meets its contract: the powers passed are below 2 × near. Assumes nothing.
+-- `spans::rounded_start` meets its contract: the powers passed are below 2 × near. Assumes nothing.
 use borrow.Author.Needs.{needs}
 use native.Mathlib.Omega.{arith}
 use native.Mathlib.Nat.{div-mul-le-self}
 use mathlib.Core.Path.{_≡_}
 use Prim.Native.Nat.{_*_, _^_, _-_, _<_, _≤_}
 use Rattle.ways.specs.Search.{near}
-use Rattle.search.specs.Rounded.{Passed, passed-none, passed-more, shifted, round-at, round-none}
-use Rattle.search.proofs.rounded_start.Statement.{statement}
-use Rattle.search.proofs.rounded_start.Tie as tie
+use Rattle.spans.specs.Rounded.{Passed, passed-none, passed-more, shifted, round-at, round-none}
+use Rattle.spans.proofs.rounded_start.Statement.{statement}
+use Rattle.spans.proofs.rounded_start.Tie as tie
 
 abbrev Inv-loop : tie.InvT-loop
 Inv-loop n start least e₀ e = (e ≤ 8) × ((least ≡ 2 * near n) × Passed n e)
