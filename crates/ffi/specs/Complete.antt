@@ -9,7 +9,7 @@ use Rattle.rules.specs.declared.Request.{Request}
 use Rattle.ways.specs.Calls.{Told, telling, fresh}
 use Rattle.ways.specs.Promises.{Words}
 use Rattle.complete.specs.Complete.{same-words}
-use Rattle.ffi.specs.declared.Answer.{Answer}
+use Rattle.numbers.specs.declared.Answer.{Answer}
 use Rattle.ffi.specs.declared.Figures.{Figures}
 use Rattle.ffi.specs.Promises.{StartNumber, GetAnswer, PutNumber, DrainNumber, FiguresAnswer}
 

@@ -12,7 +12,7 @@ use Rattle.ways.specs.State.{st}
 use Rattle.ways.specs.Calls.{telling, fresh, start, get, put, drain}
 use Rattle.ways.specs.Promises.{Words}
 use Rattle.statistics.specs.Report.{reportOf}
-use Rattle.ffi.specs.declared.Answer.{Answer}
+use Rattle.numbers.specs.declared.Answer.{Answer}
 use Rattle.ffi.specs.declared.Figures.{Figures}
 use Rattle.ffi.specs.Figures.{figuresOf}
 

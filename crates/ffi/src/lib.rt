@@ -1,29 +1,14 @@
 // The library for C and Rust: the calls of llfree with C types. Each answers with a number of document 01 on any arguments, table, header, lengths and words.
+use numbers::Answer;
 use rules::Given;
 use rules::Header;
 use rules::Name;
 use rules::Request;
 use tallies::Rows;
-use ways::Granted;
-use ways::Reply;
 ghost use mathlib.Core.Path.{_≡_};
-ghost use mathlib.Core.List.{List};
-ghost use Prim.Native.Nat.{ℕ};
-ghost use Rattle.ways.specs.State.{st};
-ghost use Rattle.ways.specs.Calls.{telling, toldGet};
 ghost use Rattle.ways.specs.Promises.{words};
 ghost use Rattle.ffi.specs.Args.{nameOf, givenOf, asking};
 ghost use Rattle.ffi.specs.Promises.{StartNumber, GetAnswer, PutNumber, DrainNumber, FiguresAnswer};
-
-// What a get answers: the number, the frame and the class (0 and 0 where it is refused), and the counts.
-#[repr(C)]
-pub struct Answer {
-    pub number: usize,
-    pub frame: usize,
-    pub class: usize,
-    pub looks: usize,
-    pub tries: usize,
-}
 
 // What statistics answer: the number, total free, free trees, and the rows of the eight classes; zeros where it is refused.
 #[repr(C)]
@@ -32,29 +17,6 @@ pub struct Figures {
     pub free: usize,
     pub trees: usize,
     pub rows: Rows,
-}
-
-// A get's answer in numbers.
-fn answered(r: Reply) -> Answer
-    ensures { λ a. ⌜ ((t l b : List ℕ) → telling (a .number) (a .frame) (a .class) (st t l b (a .looks) (a .tries)) ≡ toldGet r t l b) ⌝ }
-{
-    let granted = r.granted;
-    match granted {
-        Granted::Done { frame, class } => Answer {
-            number: 0,
-            frame: frame,
-            class: class,
-            looks: r.looks,
-            tries: r.tries,
-        },
-        Granted::Refused(x) => Answer {
-            number: numbers::refusal_number(x),
-            frame: 0,
-            class: 0,
-            looks: r.looks,
-            tries: r.tries,
-        },
-    }
 }
 
 // The frame that a get names, if it names one.
@@ -124,7 +86,7 @@ pub extern "C" fn llfree_get(
 {
     let name = name_of(named, frame);
     let q = ask(order, class, given, local);
-    answered(llfree::get(h, table, trees, locals, bits, name, q))
+    numbers::answered(llfree::get(h, table, trees, locals, bits, name, q))
 }
 
 // A put of the block at a frame.

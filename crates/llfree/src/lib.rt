@@ -105,7 +105,7 @@ pub fn get(
         r (words (now (trees .exit)) (now (locals .exit)) (now (bits .exit))) ⌝ }
 {
     if state::stands(h, table, trees, locals, bits) {
-        match puts::check(h, table, q, frame_of(name)) {
+        match checks::check(h, table, q, frame_of(name)) {
             Outcome::Done => reply(routes::routes(h, table, trees, locals, bits, q, name)),
             Outcome::Refused(x) => refused(x),
         }
@@ -128,7 +128,7 @@ pub fn put(
         r (words (now (trees .exit)) (now (locals .exit)) (now (bits .exit))) ⌝ }
 {
     if state::stands(h, table, trees, locals, bits) {
-        match puts::check(h, table, q, frame) {
+        match checks::check(h, table, q, frame) {
             Outcome::Done => puts::put_body(h, table, trees, locals, bits, q, frame),
             Outcome::Refused(x) => Outcome::Refused(x),
         }

@@ -1,8 +1,13 @@
-// The number of an outcome in document 01.
+// Answers in numbers: the number of an outcome in document 01, and what a get answers.
+use ways::Granted;
 use ways::Outcome;
 use ways::Refusal;
+use ways::Reply;
 ghost use mathlib.Core.Path.{_≡_};
-ghost use Rattle.ways.specs.Calls.{numberOf, outcomeOf};
+ghost use mathlib.Core.List.{List};
+ghost use Prim.Native.Nat.{ℕ};
+ghost use Rattle.ways.specs.State.{st};
+ghost use Rattle.ways.specs.Calls.{numberOf, outcomeOf, telling, toldGet};
 
 // The number of a refusal.
 pub fn refusal_number(x: Refusal) -> usize
@@ -30,5 +35,38 @@ pub fn number(o: Outcome) -> usize
     match o {
         Outcome::Done => 0,
         Outcome::Refused(x) => refusal_number(x),
+    }
+}
+
+// What a get answers: the number, the frame and the class (0 and 0 where it is refused), and the counts.
+#[repr(C)]
+pub struct Answer {
+    pub number: usize,
+    pub frame: usize,
+    pub class: usize,
+    pub looks: usize,
+    pub tries: usize,
+}
+
+// A get's answer in numbers.
+pub fn answered(r: Reply) -> Answer
+    ensures { λ a. ⌜ ((t l b : List ℕ) → telling (a .number) (a .frame) (a .class) (st t l b (a .looks) (a .tries)) ≡ toldGet r t l b) ⌝ }
+{
+    let granted = r.granted;
+    match granted {
+        Granted::Done { frame, class } => Answer {
+            number: 0,
+            frame: frame,
+            class: class,
+            looks: r.looks,
+            tries: r.tries,
+        },
+        Granted::Refused(x) => Answer {
+            number: refusal_number(x),
+            frame: 0,
+            class: 0,
+            looks: r.looks,
+            tries: r.tries,
+        },
     }
 }

@@ -1,4 +1,4 @@
-// llfree.rs, get and get_at: the routes of get in their order.
+// llfree.rs, get: the routes of a get in their order.
 use rules::Given;
 use rules::Header;
 use rules::Name;
@@ -8,67 +8,10 @@ use ways::Routed;
 ghost use mathlib.Core.Path.{_≡_};
 ghost use Prim.Native.Nat.{_+_, _*_, _/_, _^_, _<_, _≤_};
 ghost use Rattle.rules.specs.Words.{config};
-ghost use Rattle.rules.specs.declared.Name.the-variants.{Any, Frame};
 ghost use Rattle.rules.specs.declared.Given.the-variants as Given;
-ghost use Rattle.ways.specs.State.{st, ended, indexOf, orElse};
-ghost use Rattle.ways.specs.Walk.{stealGlobal};
-ghost use Rattle.ways.specs.Get.{lastRoutes, getAt, startTree, getReserving, searchTrees, getAny, routes};
+ghost use Rattle.ways.specs.State.{st, ended, indexOf};
+ghost use Rattle.ways.specs.Get.{startTree, getReserving, searchTrees, getAny, routes};
 ghost use Rattle.ways.specs.Fits.{Fits};
-
-// Where the own local came back empty: steal globally from the named frame's tree; steal from locals; demote.
-fn after_own(
-    h: Header,
-    table: &[u32; 64],
-    trees: &mut [u32],
-    locals: &mut [u64],
-    bits: &mut [u64],
-    q: Request,
-    f: usize,
-    looks: usize,
-    tries: usize,
-) -> Routed
-    requires { ⌜ Fits h q × ((looks < 2 ^ 30) × (tries < 2 ^ 30)) ⌝ }
-    ensures { λ r. ⌜ (ended r (now (trees .exit)) (now (locals .exit)) (now (bits .exit))
-        ≡ orElse (stealGlobal (config h (now (table .entry))) q (Frame f) (f / 2048) (st (now (trees .entry)) (now (locals .entry)) (now (bits .entry)) looks tries))
-        (lastRoutes (config h (now (table .entry))) q (Frame f)))
-        × ((r .looks ≤ looks) × (r .tries ≤ tries + 3)) ⌝ }
-{
-    let name = Name::Frame(f);
-    let t = f / 2048;
-    let r = steal::steal_global(h, table, trees, locals, bits, q, name, t, looks, tries);
-    let got = r.got;
-    if ends::ends(got) {
-        return r;
-    }
-    others::last_routes(h, table, trees, locals, bits, q, name, r.looks, r.tries)
-}
-
-// Named frame: own local if given; steal globally from its tree; steal from locals; demote.
-fn get_at(
-    h: Header,
-    table: &[u32; 64],
-    trees: &mut [u32],
-    locals: &mut [u64],
-    bits: &mut [u64],
-    q: Request,
-    f: usize,
-    looks: usize,
-    tries: usize,
-) -> Routed
-    requires { ⌜ Fits h q × ((looks < 2 ^ 27) × (tries < 2 ^ 27)) ⌝ }
-    ensures { λ r. ⌜ (ended r (now (trees .exit)) (now (locals .exit)) (now (bits .exit))
-        ≡ getAt (config h (now (table .entry))) q f (st (now (trees .entry)) (now (locals .entry)) (now (bits .entry)) looks tries))
-        × ((r .looks ≤ looks) × (r .tries ≤ tries + 4)) ⌝ }
-{
-    let local = q.local;
-    let name = Name::Frame(f);
-    let r = take::own_local(h, table, trees, locals, bits, q, name, local, looks, tries);
-    let got = r.got;
-    if ends::ends(got) {
-        return r;
-    }
-    after_own(h, table, trees, locals, bits, q, f, r.looks, r.tries)
-}
 
 // n / m, rounded down, times i.
 fn portion(n: usize, m: usize, i: usize) -> usize
@@ -87,7 +30,7 @@ fn start_tree(h: Header, table: &[u32; 64], q: Request, i: usize) -> usize
     if m == 0 {
         return 0;
     }
-    portion(search::count(h.frames), m, i)
+    portion(spans::count(h.frames), m, i)
 }
 
 // Own local, then reserving search; a present own reservation that failed gives its tree as the start.
@@ -143,7 +86,7 @@ fn search_trees(
     match local {
         Given::Local(i) => {
             let start = start_tree(h, table, q, i);
-            if words::locals_of(h, q.class) < search::count(h.frames) {
+            if words::locals_of(h, q.class) < spans::count(h.frames) {
                 let j = words::slot(h, q.class, i);
                 return get_reserving(h, table, trees, locals, bits, q, j, start, looks, tries);
             }
@@ -197,6 +140,6 @@ pub fn routes(
 {
     match name {
         Name::Any => get_any(h, table, trees, locals, bits, q, 0, 0),
-        Name::Frame(f) => get_at(h, table, trees, locals, bits, q, f, 0, 0),
+        Name::Frame(f) => named::get_at(h, table, trees, locals, bits, q, f, 0, 0),
     }
 }

@@ -9,40 +9,8 @@ ghost use Rattle.rules.specs.Words.{config, treeCount};
 ghost use Rattle.ways.specs.declared.Walk.the-variants as Walk;
 ghost use Rattle.ways.specs.State.{st, ended};
 ghost use Rattle.ways.specs.Walk.{searchBest};
-ghost use Rattle.ways.specs.Search.{near, roundedStart, searchFar, searchFrom, searchAndReserve, searchAndSteal};
+ghost use Rattle.ways.specs.Search.{near, searchFar, searchFrom, searchAndReserve, searchAndSteal};
 ghost use Rattle.ways.specs.Fits.{Fits};
-
-// The number of trees, 1 to 1,024.
-pub fn count(frames: usize) -> usize
-    requires { ⌜ (0 < frames) × (frames ≤ 2 ^ 21) ⌝ }
-    ensures { λ r. ⌜ (r ≡ treeCount 11 frames) × ((0 < r) × (r ≤ 1024)) ⌝ }
-{
-    words::tree_count(frames)
-}
-
-// near = max(n / 16, 4).
-fn near(n: usize) -> usize
-    requires { ⌜ n ≤ 1024 ⌝ }
-    ensures { λ r. ⌜ (r ≡ near n) × (r ≤ 64) ⌝ }
-{
-    if n / 16 < 4 { 4 } else { n / 16 }
-}
-
-// The start rounded down to a multiple of the least power of two not below 2 × near.
-fn rounded_start(n: usize, start: usize) -> usize
-    requires { ⌜ (n ≤ 1024) × (start < 2 ^ 44) ⌝ }
-    ensures { λ r. ⌜ (r ≡ roundedStart n start) × (r ≤ start) ⌝ }
-{
-    let least = 2 * near(n);
-    let mut e: usize = 0;
-    while e < 8 {
-        if least <= best::size(e) {
-            return (start >> e) << e;
-        }
-        e += 1;
-    }
-    0
-}
 
 // The far walk: 0 to n, with a list of 8.
 fn search_far(
@@ -62,8 +30,7 @@ fn search_far(
         ≡ searchFar (config h (now (table .entry))) q j start (st (now (trees .entry)) (now (locals .entry)) (now (bits .entry)) looks tries))
         × ((r .looks ≤ looks + 1024) × (r .tries ≤ tries + 1032)) ⌝ }
 {
-    let n = count(h.frames);
-    let w = Walk::Far;
+    let n = spans::count(h.frames);
     walk::search_best(
         h,
         table,
@@ -71,7 +38,7 @@ fn search_far(
         locals,
         bits,
         q,
-        w,
+        Walk::Far,
         j,
         8,
         n,
@@ -102,9 +69,8 @@ fn search_near(
         (st (now (trees .entry)) (now (locals .entry)) (now (bits .entry)) looks tries))
         × ((r .looks ≤ looks + 64) × (r .tries ≤ tries + 67)) ⌝ }
 {
-    let n = count(h.frames);
-    let w = Walk::Near;
-    let last = near(n);
+    let n = spans::count(h.frames);
+    let last = spans::near(n);
     walk::search_best(
         h,
         table,
@@ -112,7 +78,7 @@ fn search_near(
         locals,
         bits,
         q,
-        w,
+        Walk::Near,
         j,
         3,
         n,
@@ -171,8 +137,8 @@ pub fn search_and_reserve(
         ≡ searchAndReserve (config h (now (table .entry))) q j start (st (now (trees .entry)) (now (locals .entry)) (now (bits .entry)) looks tries))
         × ((r .looks ≤ looks + 2048) × (r .tries ≤ tries + 2048)) ⌝ }
 {
-    let n = count(h.frames);
-    let from = rounded_start(n, start);
+    let n = spans::count(h.frames);
+    let from = spans::rounded_start(n, start);
     search_from(h, table, trees, locals, bits, q, j, from, looks, tries)
 }
 
@@ -193,8 +159,7 @@ pub fn search_and_steal(
         ≡ searchAndSteal (config h (now (table .entry))) q start (st (now (trees .entry)) (now (locals .entry)) (now (bits .entry)) looks tries))
         × ((r .looks ≤ looks + 2048) × (r .tries ≤ tries + 2048)) ⌝ }
 {
-    let n = count(h.frames);
-    let w = Walk::Stealing;
+    let n = spans::count(h.frames);
     walk::search_best(
         h,
         table,
@@ -202,7 +167,7 @@ pub fn search_and_steal(
         locals,
         bits,
         q,
-        w,
+        Walk::Stealing,
         0,
         8,
         n,

@@ -59,7 +59,7 @@ pub fn tell<'a>(
 {
     if state::stands(h, table, trees, locals, bits) {
         if n == 8 {
-            let whole = tallies::totals(h, table, trees, locals);
+            let whole = totals::totals(h, table, trees, locals);
             let rows = tallies::all_rows(h, table, trees, locals);
             return Report {
                 done: true,

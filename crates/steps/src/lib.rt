@@ -1,5 +1,6 @@
-// What several routes do: ask the lower for frames that were taken, return a reservation.
+// What several routes do: read the given index, ask the lower for frames that were taken, return a reservation.
 use rules::Found;
+use rules::Given;
 use rules::Header;
 use rules::Local;
 use rules::Name;
@@ -11,9 +12,19 @@ ghost use mathlib.Core.List.{List};
 ghost use Prim.Native.Nat.{ℕ, _+_, _/_, _^_, _<_, _≤_};
 ghost use Rattle.rules.specs.Base.{out};
 ghost use Rattle.rules.specs.Words.{config};
-ghost use Rattle.ways.specs.State.{st, ended, askLower};
+ghost use Rattle.ways.specs.State.{st, ended, indexOf, askLower};
 ghost use Rattle.ways.specs.Fits.{Fits};
 ghost use Rattle.steps.specs.Returned.{returned, returnedLocal};
+
+// The given index, 0 if none.
+pub fn index_of(local: Given) -> usize
+    ensures { λ r. ⌜ r ≡ indexOf local ⌝ }
+{
+    match local {
+        Given::Local(i) => i,
+        Given::Nothing => 0,
+    }
+}
 
 // The lower is asked once, at a row, for frames that were taken of the row's tree; refused, they go to its entry.
 pub fn ask_lower(

@@ -1,12 +1,19 @@
--- The top up in the terms of the code: no sync left, or one. Assumes nothing.
+-- Take and top up in the terms of the code: the local's answer, and then its parts; no sync left, or one. Assumes nothing.
 use mathlib.Core.Path.{_≡_, refl}
 use Prim.Native.Nat.{ℕ, zero, suc, _-_, _/_}
 use native.Mathlib.Omega.{arith}
 use Rattle.rules.specs.Words.{Config, treeRows}
+use Rattle.rules.specs.Locals.{localTake}
 use Rattle.rules.specs.declared.Name.{Name}
 use Rattle.rules.specs.declared.Request.{Request}
-use Rattle.ways.specs.State.{State, missedAt}
-use Rattle.ways.specs.Locals.{topBy, topUp, getLocal}
+use Rattle.ways.specs.State.{State, Way, size, onHeld, missed, missedAt}
+use Rattle.ways.specs.Locals.{takeBy, topBy, topUp, getLocal}
+use Rattle.own.specs.Own.{atRow}
+
+pub take-parts : (up : ℕ → ℕ → State → Way) (c : Config) (q : Request) (name : Name) (j : ℕ) (s : State)
+    → takeBy up c q name j s ≡ onHeld (localTake (c .order) (s .locals) j name (size q)) s (atRow c q name j) up missed
+unfolding takeBy atRow
+take-parts up c q name j s = refl
 
 module _ (k : ℕ) (c : Config) (q : Request) (name : Name) (j row free : ℕ) (s : State) where
   pub topUp-none : k ≡ 0 → topUp k c q name j row free s ≡ missedAt (row / treeRows (c .order)) s

@@ -2,7 +2,7 @@
 use mathlib.Core.Path.{_≡_, refl, sym, _∙_}
 use mathlib.Core.Bool.{Bool, true, false}
 use mathlib.Core.List.{List}
-use Prim.Native.Nat.{ℕ, _+_, _-_, _*_, _/_, _^_, _<_, _≤_}
+use Prim.Native.Nat.{ℕ, _+_, _-_, _*_, _^_, _<_, _≤_}
 use native.Mathlib.Nat.{add-zero, mul-le-mul-right}
 use native.Mathlib.Omega.{arith}
 use lib.Dec.{eqb}
@@ -29,22 +29,6 @@ treeAt ts k t = pick (eqb (entryAt ts t .class) k) 1 0
 -- of local j, if it is present and its tree's entry has class k: its free
 unfoldable pub heldOn : ℕ → List ℕ → List ℕ → ℕ → ℕ → ℕ
 heldOn z ts ls k j = pick (localAt ls j .present) (pick (eqb (entryAt ts (treeOn z (localAt ls j)) .class) k) (localAt ls j .free) 0) 0
-
--- the free of the first n entries
-unfoldable pub entriesFree : List ℕ → ℕ → ℕ
-entriesFree ts n = sum (λ t. entryAt ts t .free) 0 n
-
--- and the free trees among them
-unfoldable pub entriesWhole : ℕ → List ℕ → ℕ → ℕ
-entriesWhole z ts n = sum (λ t. entryAt ts t .free / treeFrames z) 0 n
-
--- the free of the first n locals
-unfoldable pub localsFree : List ℕ → ℕ → ℕ
-localsFree ls n = sum (λ j. localAt ls j .free) 0 n
-
--- and the free trees among them
-unfoldable pub localsWhole : ℕ → List ℕ → ℕ → ℕ
-localsWhole z ls n = sum (λ j. localAt ls j .free / treeFrames z) 0 n
 
 -- the free of the n locals from a place on
 unfoldable pub freeFrom : List ℕ → ℕ → ℕ → ℕ

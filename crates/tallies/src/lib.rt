@@ -1,4 +1,4 @@
-// Statistics by value: the row of a class, the eight rows, total free and free trees.
+// The rows of the statistics by value: the row of a class, the eight rows.
 use rules::Header;
 use rules::Local;
 use ways::Tally;
@@ -7,21 +7,15 @@ ghost use Prim.Native.Nat.{_*_, _+_, _-_, _^_, _<_, _≤_};
 ghost use lib.ListN.{getD};
 ghost use Rattle.rules.specs.Base.{pick};
 ghost use Rattle.rules.specs.Words.{config};
-ghost use Rattle.ways.specs.Statistics.{localFree, tally, totalFree, freeTrees};
+ghost use Rattle.ways.specs.Statistics.{localFree, tally};
 ghost use Rattle.tallies.specs.Rows.{rowsOf, rowOf};
-ghost use Rattle.tallies.specs.Sums.{freeAt, allocAt, treeAt, heldOn, Summed, entriesFree, entriesWhole, localsFree, localsWhole};
+ghost use Rattle.tallies.specs.Sums.{freeAt, allocAt, treeAt, heldOn, Summed};
 
 // By class, of the entries that have it: their free, 2,048 less their free, their number.
 pub struct Entries {
     pub free: [usize; 8],
     pub alloc: [usize; 8],
     pub trees: [usize; 8],
-}
-
-// Total free, and free trees.
-pub struct Whole {
-    pub free: usize,
-    pub trees: usize,
 }
 
 // What a tree has beside its free.
@@ -126,58 +120,6 @@ fn class_row(
     ensures { λ r. ⌜ r ≡ rowOf 11 e (localFree (config h (now (table .entry))) (now (locals .entry)) class) reserved class ⌝ }
 {
     row(e, local_free(h, table, locals, class), reserved, class)
-}
-
-// Total free and free trees of the first n entries.
-fn entries_whole(trees: &[u32], n: usize) -> Whole
-    requires { ⌜ n ≤ 1024 ⌝ }
-    ensures { λ r. ⌜ (r .free ≡ entriesFree (now (trees .entry)) n) × ((r .trees ≡ entriesWhole 11 (now (trees .entry)) n)
-        × ((r .free ≤ 2 ^ 38) × (r .trees ≤ 2 ^ 38))) ⌝ }
-{
-    let mut free: usize = 0;
-    let mut whole: usize = 0;
-    for t in 0..n {
-        let e = trees::load(trees, t);
-        free = free + e.free;
-        whole = whole + e.free / 2048;
-    }
-    Whole {
-        free: free,
-        trees: whole,
-    }
-}
-
-// Total free and free trees of the first n locals.
-fn locals_whole(locals: &[u64], n: usize) -> Whole
-    requires { ⌜ n < 2048 ⌝ }
-    ensures { λ r. ⌜ (r .free ≡ localsFree (now (locals .entry)) n) × ((r .trees ≡ localsWhole 11 (now (locals .entry)) n)
-        × ((r .free ≤ 2 ^ 38) × (r .trees ≤ 2 ^ 38))) ⌝ }
-{
-    let mut free: usize = 0;
-    let mut whole: usize = 0;
-    for j in 0..n {
-        let l = local::load(locals, j);
-        free = free + l.free;
-        whole = whole + l.free / 2048;
-    }
-    Whole {
-        free: free,
-        trees: whole,
-    }
-}
-
-// Total free sums entries and locals; free trees are each entry's and each local's, rounded down, then summed.
-pub fn totals(h: Header, table: &[u32; 64], trees: &[u32], locals: &[u64]) -> Whole
-    requires { ⌜ h .frames ≤ 2 ^ 21 ⌝ }
-    ensures { λ r. ⌜ (r .free ≡ totalFree (config h (now (table .entry))) (now (trees .entry)) (now (locals .entry)))
-        × (r .trees ≡ freeTrees (config h (now (table .entry))) (now (trees .entry)) (now (locals .entry))) ⌝ }
-{
-    let a = entries_whole(trees, words::tree_count(h.frames));
-    let b = locals_whole(locals, words::first_slot(h, 8));
-    Whole {
-        free: a.free + b.free,
-        trees: a.trees + b.trees,
-    }
 }
 
 // The eight rows, one for each class.

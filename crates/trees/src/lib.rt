@@ -40,7 +40,7 @@ pub fn put(h: Header, table: &[u32; 64], trees: &mut [u32], t: usize, n: usize)
     ensures { λ _. ⌜ now (trees .exit) ≡ entryPut (config h (now (table .entry))) (now (trees .entry)) t n ⌝ }
 {
     let old = load(trees, t);
-    store(trees, t, words::tree_word(words::put(h, table, old, n)));
+    store(trees, t, words::tree_word(entries::put(h, table, old, n)));
 }
 
 // Steal: the entry that is left, or a refusal.
@@ -56,7 +56,7 @@ pub fn steal(
     ensures { λ r. ⌜ out r (now (trees .exit)) ≡ entrySteal (config h (now (table .entry))) (now (trees .entry)) t class n ⌝ }
 {
     let old = load(trees, t);
-    match words::steal(h, table, old, class, n) {
+    match entries::steal(h, table, old, class, n) {
         Took::No => Took::No,
         Took::Yes(left) => {
             store(trees, t, words::tree_word(left));
@@ -78,7 +78,7 @@ pub fn reserve_or_steal(
     ensures { λ r. ⌜ out r (now (trees .exit)) ≡ entryReserve (config h (now (table .entry))) (now (trees .entry)) t class n ⌝ }
 {
     let old = load(trees, t);
-    match words::reserve_or_steal(h, table, old, class, n) {
+    match entries::reserve_or_steal(h, table, old, class, n) {
         Taken::No => Taken::No,
         Taken::Part(part) => {
             store(trees, t, words::tree_word(part));
@@ -104,7 +104,7 @@ pub fn unreserve(
     ensures { λ r. ⌜ out r (now (trees .exit)) ≡ entryUnreserve (config h (now (table .entry))) (now (trees .entry)) t class n ⌝ }
 {
     let old = load(trees, t);
-    match words::unreserve(h, table, old, class, n) {
+    match entries::unreserve(h, table, old, class, n) {
         Took::No => Took::No,
         Took::Yes(whole) => {
             store(trees, t, words::tree_word(whole));
@@ -118,7 +118,7 @@ pub fn sync(trees: &mut [u32], t: usize, shortfall: usize) -> Synced
     ensures { λ r. ⌜ out r (now (trees .exit)) ≡ entrySync (now (trees .entry)) t shortfall ⌝ }
 {
     let old = load(trees, t);
-    match words::sync(old, shortfall) {
+    match entries::sync(old, shortfall) {
         Took::No => Synced::Nothing,
         Took::Yes(empty) => {
             store(trees, t, words::tree_word(empty));

@@ -1,10 +1,10 @@
 -- `take::get_local`, `take::top_up` meet their contracts. Assumes nothing.
-use Rattle.rules.specs.Base.{ifte}
-use Rattle.take.specs.TopUp.{topUp-more, topUp-none}
-use Rattle.ways.specs.Locals.{getLocal, takeBy, topBy}
-use Rattle.ways.specs.State.{onFound, onHeld, onPut, onSync, putEntry, setRow, withLocals, withTrees, withTry}
+use Rattle.own.specs.Own.{onTopped, top-topped}
+use Rattle.take.specs.TopUp.{take-parts, topUp-more, topUp-none}
+use Rattle.ways.specs.Locals.{getLocal}
+use Rattle.ways.specs.State.{onHeld, withLocals}
 use borrow.Author.Needs.{needs}
-use borrow.Author.Tests.{le-ltb, lt-ltb, not-true, not-false}
+use native.Mathlib.Omega.{arith}
 use Prim.Native.Nat.{ℕ, _+_, _<_}
 use borrow.Fn.Kinds.{In}
 use borrow.Fn.PlainCycle.{Measures, is, falls, and}
@@ -15,15 +15,11 @@ use Rattle.take.proofs.top_up.Reads as top-up
 use Rattle.take.proofs.top_up.Kinds as top-up-kinds
 use Rattle.take.proofs.+get_local+top_up.Lts-top_up as top-up-lts
 use Rattle.bits.proofs.frames.Reads as frames-reads
-use Rattle.ends.proofs.done.Reads as done-reads
 use Rattle.ends.proofs.missed.Reads as missed-reads
 use Rattle.ends.proofs.missed_at.Reads as missed-at-reads
-use Rattle.local.proofs.put.Reads as put-reads
-use Rattle.local.proofs.set_start.Reads as set-start-reads
 use Rattle.local.proofs.take.Reads as take-reads
-use Rattle.lower.proofs.lower_get.Reads as lower-get-reads
-use Rattle.trees.proofs.put.Reads as put-reads′
-use Rattle.trees.proofs.sync.Reads as sync-reads
+use Rattle.own.proofs.at_row.Reads as at-row-reads
+use Rattle.own.proofs.topped.Reads as topped-reads
 use Rattle.take.proofs.+get_local+top_up.{statement}
 use Rattle.take.proofs.+get_local+top_up.Tie.{close}
 
@@ -53,16 +49,8 @@ get-local-calls t = (
   frames-reads.Learnt,
   take-reads.Asked,
   take-reads.Learnt,
-  lower-get-reads.Asked,
-  lower-get-reads.Learnt,
-  set-start-reads.Asked,
-  set-start-reads.Learnt,
-  done-reads.Asked,
-  done-reads.Learnt,
-  put-reads′.Asked,
-  put-reads′.Learnt,
-  missed-at-reads.Asked,
-  missed-at-reads.Learnt,
+  at-row-reads.Asked,
+  at-row-reads.Learnt,
   top-up-below t,
   top-up.Post,
   missed-reads.Asked,
@@ -76,12 +64,8 @@ top-up-calls t = (
   missed-at-reads.Learnt,
   frames-reads.Asked,
   frames-reads.Learnt,
-  sync-reads.Asked,
-  sync-reads.Learnt,
-  put-reads.Asked,
-  put-reads.Learnt,
-  put-reads′.Asked,
-  put-reads′.Learnt,
+  topped-reads.Asked,
+  topped-reads.Learnt,
   get-local-below t,
   get-local.Post,
 )
@@ -89,8 +73,8 @@ top-up-calls t = (
 get-local-frames-requires : (t : ℕ) → get-local-lts.Need-frames-requires (get-local-calls t) (get-local-at t) get-local.Post
 get-local-frames-requires t c κs = search needs
 
-get-local-cast-n : (t : ℕ) → get-local-lts.Need-cast-n (get-local-calls t) (get-local-at t) get-local.Post
-get-local-cast-n t c = search needs
+get-local-cast-take : (t : ℕ) → get-local-lts.Need-cast-take (get-local-calls t) (get-local-at t) get-local.Post
+get-local-cast-take t c = search needs
 
 get-local-take-requires : (t : ℕ) → get-local-lts.Need-take-requires (get-local-calls t) (get-local-at t) get-local.Post
 get-local-take-requires t c κs = search needs
@@ -98,32 +82,8 @@ get-local-take-requires t c κs = search needs
 get-local-enum-known-row : (t : ℕ) → get-local-lts.Need-enum-known-row (get-local-calls t) (get-local-at t) get-local.Post
 get-local-enum-known-row t c = search needs
 
-get-local-lower-get-requires : (t : ℕ) → get-local-lts.Need-lower-get-requires (get-local-calls t) (get-local-at t) get-local.Post
-get-local-lower-get-requires t c κs = search needs
-
-get-local-enum-known-f : (t : ℕ) → get-local-lts.Need-enum-known-f (get-local-calls t) (get-local-at t) get-local.Post
-get-local-enum-known-f t c = search needs
-
-get-local-set-start-requires : (t : ℕ) → get-local-lts.Need-set-start-requires (get-local-calls t) (get-local-at t) get-local.Post
-get-local-set-start-requires t c κs = search needs
-
-get-local-add-done : (t : ℕ) → get-local-lts.Need-add-done (get-local-calls t) (get-local-at t) get-local.Post
-get-local-add-done t c = search needs
-
-get-local-done-requires : (t : ℕ) → get-local-lts.Need-done-requires (get-local-calls t) (get-local-at t) get-local.Post
-get-local-done-requires t c κs = search needs
-
-get-local-enum-told : (t : ℕ) → get-local-lts.Need-enum-told (get-local-calls t) (get-local-at t) get-local.Post
-get-local-enum-told t c = search needs
-
-get-local-put-requires : (t : ℕ) → get-local-lts.Need-put-requires (get-local-calls t) (get-local-at t) get-local.Post
-get-local-put-requires t c κs = search needs
-
-get-local-add-missed-at : (t : ℕ) → get-local-lts.Need-add-missed-at (get-local-calls t) (get-local-at t) get-local.Post
-get-local-add-missed-at t c = search needs
-
-get-local-missed-at-requires : (t : ℕ) → get-local-lts.Need-missed-at-requires (get-local-calls t) (get-local-at t) get-local.Post
-get-local-missed-at-requires t c κs = search needs
+get-local-at-row-requires : (t : ℕ) → get-local-lts.Need-at-row-requires (get-local-calls t) (get-local-at t) get-local.Post
+get-local-at-row-requires t c κs = search needs
 
 get-local-enum-known-row-2 : (t : ℕ) → get-local-lts.Need-enum-known-row-2 (get-local-calls t) (get-local-at t) get-local.Post
 get-local-enum-known-row-2 t c = search needs
@@ -131,86 +91,65 @@ get-local-enum-known-row-2 t c = search needs
 get-local-top-up-requires : (t : ℕ) → get-local-lts.Need-top-up-requires (get-local-calls t) (get-local-at t) get-local.Post
 get-local-top-up-requires t c κs = search needs
 
-get-local-enum-told-2 : (t : ℕ) → get-local-lts.Need-enum-told-2 (get-local-calls t) (get-local-at t) get-local.Post
-get-local-enum-told-2 t c = search needs
+get-local-enum-told : (t : ℕ) → get-local-lts.Need-enum-told (get-local-calls t) (get-local-at t) get-local.Post
+get-local-enum-told t c = search needs
 
 get-local-missed-requires : (t : ℕ) → get-local-lts.Need-missed-requires (get-local-calls t) (get-local-at t) get-local.Post
 get-local-missed-requires t c κs = search needs
 
 get-local-same-length : (t : ℕ) → get-local-lts.Need-same-length (get-local-calls t) (get-local-at t) get-local.Post
-get-local-same-length t c = search needs
+get-local-same-length t c = omega (arith, c .before .before .before .before .before .before .at-row .kept, c .before .before .before .before .before .before .before .before .before .before .before .before .before .before .before .take .kept)
 
 get-local-same-length-2 : (t : ℕ) → get-local-lts.Need-same-length-2 (get-local-calls t) (get-local-at t) get-local.Post
-get-local-same-length-2 t c = search needs
-
-get-local-returns : (t : ℕ) → get-local-lts.Need-returns (get-local-calls t) (get-local-at t) get-local.Post
-unfolding getLocal takeBy topBy onHeld onFound onSync onPut putEntry setRow withTrees withLocals withTry ifte
-get-local-returns t c = (
-  rw (
-    ← c .before .before .before .before .before .before .before .before .before .before .before .before .before .before .before .before .before .before .before .frames .ensures,
-    ← c .before .before .before .before .before .before .before .before .before .before .before .before .before .before .before .before .before .take .ensures,
-    c .before .before .before .before .before .before .before .before .before .before .before .before .before .row .given .1,
-    ← c .before .before .before .before .before .before .before .before .before .before .lower-get .ensures,
-    c .before .before .before .before .before .before .f .given .1,
-    ← c .before .before .before .set-start .ensures,
-  ) (c .done .ensures .0 _ _ _),
-  (search needs, search needs),
-)
+get-local-same-length-2 t c = omega (arith, c .before .before .before .before .before .before .at-row .kept, c .before .before .before .before .before .before .before .before .before .before .before .before .before .before .before .take .kept)
 
 get-local-same-length-3 : (t : ℕ) → get-local-lts.Need-same-length-3 (get-local-calls t) (get-local-at t) get-local.Post
-get-local-same-length-3 t c = search needs
+get-local-same-length-3 t c = omega (arith, c .before .before .before .before .before .before .at-row .kept, c .before .before .before .before .before .before .before .before .before .before .before .before .before .before .before .take .kept)
+
+get-local-returns : (t : ℕ) → get-local-lts.Need-returns (get-local-calls t) (get-local-at t) get-local.Post
+unfolding getLocal onHeld withLocals
+get-local-returns t c = (
+  rw (
+    take-parts _ _ _ _ _ _,
+    ← c .before .before .before .before .before .before .before .before .before .before .before .before .before .before .before .before .frames .ensures,
+    ← c .before .before .before .before .before .before .before .before .before .before .before .before .before .before .before .take .ensures,
+    c .before .before .before .before .before .before .before .before .before .before .before .row .given .1,
+  ) (c .before .before .before .before .before .before .at-row .ensures .0),
+  c .before .before .before .before .before .before .at-row .ensures .1,
+)
 
 get-local-same-length-4 : (t : ℕ) → get-local-lts.Need-same-length-4 (get-local-calls t) (get-local-at t) get-local.Post
-get-local-same-length-4 t c = search needs
+get-local-same-length-4 t c = omega (arith, c .before .before .before .before .before .before .top-up .kept, c .before .before .before .before .before .before .before .before .before .before .before .before .before .before .before .take .kept)
 
 get-local-same-length-5 : (t : ℕ) → get-local-lts.Need-same-length-5 (get-local-calls t) (get-local-at t) get-local.Post
-get-local-same-length-5 t c = search needs
-
-get-local-returns-2 : (t : ℕ) → get-local-lts.Need-returns-2 (get-local-calls t) (get-local-at t) get-local.Post
-unfolding getLocal takeBy topBy onHeld onFound onSync onPut putEntry setRow withTrees withLocals withTry ifte
-get-local-returns-2 t c = (
-  rw (
-    ← c .before .before .before .before .before .before .before .before .before .before .before .before .before .before .before .before .before .before .frames .ensures,
-    ← c .before .before .before .before .before .before .before .before .before .before .before .before .before .before .before .before .take .ensures,
-    c .before .before .before .before .before .before .before .before .before .before .before .before .row .given .1,
-    ← c .before .before .before .before .before .before .before .before .before .lower-get .ensures,
-    c .before .before .before .before .before .enum-told .given .1,
-    ← c .before .before .before .put .ensures,
-  ) (c .missed-at .ensures .0 _ _ _),
-  (search needs, search needs),
-)
+get-local-same-length-5 t c = omega (arith, c .before .before .before .before .before .before .top-up .kept, c .before .before .before .before .before .before .before .before .before .before .before .before .before .before .before .take .kept)
 
 get-local-same-length-6 : (t : ℕ) → get-local-lts.Need-same-length-6 (get-local-calls t) (get-local-at t) get-local.Post
-get-local-same-length-6 t c = search needs
+get-local-same-length-6 t c = omega (arith, c .before .before .before .before .before .before .top-up .kept, c .before .before .before .before .before .before .before .before .before .before .before .before .before .before .before .take .kept)
 
-get-local-same-length-7 : (t : ℕ) → get-local-lts.Need-same-length-7 (get-local-calls t) (get-local-at t) get-local.Post
-get-local-same-length-7 t c = search needs
-
-get-local-same-length-8 : (t : ℕ) → get-local-lts.Need-same-length-8 (get-local-calls t) (get-local-at t) get-local.Post
-get-local-same-length-8 t c = search needs
-
-get-local-returns-3 : (t : ℕ) → get-local-lts.Need-returns-3 (get-local-calls t) (get-local-at t) get-local.Post
-unfolding getLocal takeBy topBy onHeld onFound onSync onPut putEntry setRow withTrees withLocals withTry ifte
-get-local-returns-3 t c = (
+get-local-returns-2 : (t : ℕ) → get-local-lts.Need-returns-2 (get-local-calls t) (get-local-at t) get-local.Post
+unfolding getLocal onHeld withLocals
+get-local-returns-2 t c = (
   rw (
-    ← c .before .before .before .before .before .before .before .before .before .before .before .before .before .before .before .before .before .frames .ensures,
+    take-parts _ _ _ _ _ _,
+    ← c .before .before .before .before .before .before .before .before .before .before .before .before .before .before .before .before .frames .ensures,
     ← c .before .before .before .before .before .before .before .before .before .before .before .before .before .before .before .take .ensures,
     c .before .before .before .before .before .before .before .before .before .before .before .row2 .given .1,
-    ← c .before .before .before .before .before .before .top-up .ensures .0,
-  ),
-  (search needs, search needs),
+  ) (c .before .before .before .before .before .before .top-up .ensures .0),
+  c .before .before .before .before .before .before .top-up .ensures .1,
 )
 
-get-local-same-length-9 : (t : ℕ) → get-local-lts.Need-same-length-9 (get-local-calls t) (get-local-at t) get-local.Post
-get-local-same-length-9 t c = search needs
+get-local-same-length-7 : (t : ℕ) → get-local-lts.Need-same-length-7 (get-local-calls t) (get-local-at t) get-local.Post
+get-local-same-length-7 t c = omega (arith, c .before .before .before .before .before .take .kept)
 
-get-local-returns-4 : (t : ℕ) → get-local-lts.Need-returns-4 (get-local-calls t) (get-local-at t) get-local.Post
-unfolding getLocal takeBy topBy onHeld onFound onSync onPut putEntry setRow withTrees withLocals withTry ifte
-get-local-returns-4 t c = (
+get-local-returns-3 : (t : ℕ) → get-local-lts.Need-returns-3 (get-local-calls t) (get-local-at t) get-local.Post
+unfolding getLocal onHeld withLocals
+get-local-returns-3 t c = (
   rw (
-    ← c .before .before .before .before .before .before .before .frames .ensures,
+    take-parts _ _ _ _ _ _,
+    ← c .before .before .before .before .before .before .frames .ensures,
     ← c .before .before .before .before .before .take .ensures,
-    c .before .enum-told2 .given .1,
+    c .before .enum-told .given .1,
   ) (c .missed .ensures .0 _ _ _),
   (search needs, search needs),
 )
@@ -219,7 +158,6 @@ top-up-missed-at-requires : (t : ℕ) → top-up-lts.Need-missed-at-requires (to
 top-up-missed-at-requires t c κs = search needs
 
 top-up-returns : (t : ℕ) → top-up-lts.Need-returns (top-up-calls t) (top-up-at t) top-up.Post
-unfolding getLocal takeBy topBy onHeld onFound onSync onPut putEntry setRow withTrees withLocals withTry ifte
 top-up-returns t c = (
   rw (topUp-none _ _ _ _ _ _ _ _ (c .before .if1 .taken)) (c .missed-at .ensures .0 _ _ _),
   (search needs, search needs),
@@ -231,208 +169,97 @@ top-up-frames-requires t c κs = search needs
 top-up-cast-n : (t : ℕ) → top-up-lts.Need-cast-n (top-up-calls t) (top-up-at t) top-up.Post
 top-up-cast-n t c = search needs
 
-top-up-missed-at-requires-2 : (t : ℕ) → top-up-lts.Need-missed-at-requires-2 (top-up-calls t) (top-up-at t) top-up.Post
-top-up-missed-at-requires-2 t c κs = search needs
+top-up-topped-requires : (t : ℕ) → top-up-lts.Need-topped-requires (top-up-calls t) (top-up-at t) top-up.Post
+top-up-topped-requires t c κs = search needs
 
-top-up-returns-2 : (t : ℕ) → top-up-lts.Need-returns-2 (top-up-calls t) (top-up-at t) top-up.Post
-unfolding getLocal takeBy topBy onHeld onFound onSync onPut putEntry setRow withTrees withLocals withTry ifte
-top-up-returns-2 t c = (
-  rw (
-    topUp-more _ _ _ _ _ _ _ _ (c .before .before .before .if1 .left),
-    ← c .before .before .frames .ensures,
-    lt-ltb _ _ (c .before .if2 .taken),
-  ) (c .missed-at2 .ensures .0 _ _ _),
-  (search needs, search needs),
-)
-
-top-up-sync-requires : (t : ℕ) → top-up-lts.Need-sync-requires (top-up-calls t) (top-up-at t) top-up.Post
-top-up-sync-requires t c κs = search needs
-
-top-up-enum-known-x : (t : ℕ) → top-up-lts.Need-enum-known-x (top-up-calls t) (top-up-at t) top-up.Post
-top-up-enum-known-x t c = search needs
-
-top-up-cast-put : (t : ℕ) → top-up-lts.Need-cast-put (top-up-calls t) (top-up-at t) top-up.Post
-top-up-cast-put t c = search needs
-
-top-up-put-requires : (t : ℕ) → top-up-lts.Need-put-requires (top-up-calls t) (top-up-at t) top-up.Post
-top-up-put-requires t c κs = search needs
-
-top-up-cast-put-2 : (t : ℕ) → top-up-lts.Need-cast-put-2 (top-up-calls t) (top-up-at t) top-up.Post
-top-up-cast-put-2 t c = search needs
-
-top-up-put-requires-2 : (t : ℕ) → top-up-lts.Need-put-requires-2 (top-up-calls t) (top-up-at t) top-up.Post
-top-up-put-requires-2 t c κs = search needs
-
-top-up-missed-at-requires-3 : (t : ℕ) → top-up-lts.Need-missed-at-requires-3 (top-up-calls t) (top-up-at t) top-up.Post
-top-up-missed-at-requires-3 t c κs = search needs
-
-top-up-same-length : (t : ℕ) → top-up-lts.Need-same-length (top-up-calls t) (top-up-at t) top-up.Post
-top-up-same-length t c = search needs
-
-top-up-same-length-2 : (t : ℕ) → top-up-lts.Need-same-length-2 (top-up-calls t) (top-up-at t) top-up.Post
-top-up-same-length-2 t c = search needs
-
-top-up-returns-3 : (t : ℕ) → top-up-lts.Need-returns-3 (top-up-calls t) (top-up-at t) top-up.Post
-unfolding getLocal takeBy topBy onHeld onFound onSync onPut putEntry setRow withTrees withLocals withTry ifte
-top-up-returns-3 t c = (
-  rw (
-    topUp-more _ _ _ _ _ _ _ _ (c .before .before .before .before .before .before .before .before .before .before .before .before .before .before .before .before .before .before .before .if1 .left),
-    ← c .before .before .before .before .before .before .before .before .before .before .before .before .before .before .before .before .before .before .frames .ensures,
-    le-ltb _ _ (c .before .before .before .before .before .before .before .before .before .before .before .before .before .before .before .before .before .if2 .left),
-    ← c .before .before .before .before .before .before .before .before .before .before .before .before .before .before .before .sync .ensures,
-    c .before .before .before .before .before .before .before .before .before .before .before .x .given .1,
-    ← c .before .before .before .before .before .before .before .before .put .ensures,
-    not-true (c .before .before .before .before .before .before .before .before .put .result) (c .before .before .before .before .before .if3 .taken),
-    ← c .before .before .before .put2 .ensures,
-  ) (c .missed-at3 .ensures .0 _ _ _),
-  (search needs, search needs),
-)
-
-top-up-sub-get-local : (t : ℕ) → top-up-lts.Need-sub-get-local (top-up-calls t) (top-up-at t) top-up.Post
-top-up-sub-get-local t c = search needs
+top-up-sub-k : (t : ℕ) → top-up-lts.Need-sub-k (top-up-calls t) (top-up-at t) top-up.Post
+top-up-sub-k t c = search needs
 
 top-up-get-local-requires : (t : ℕ) → top-up-lts.Need-get-local-requires (top-up-calls t) (top-up-at t) top-up.Post
 top-up-get-local-requires t c κs = search needs
 
-top-up-enum-told : (t : ℕ) → top-up-lts.Need-enum-told (top-up-calls t) (top-up-at t) top-up.Post
-top-up-enum-told t c = search needs
+top-up-same-length : (t : ℕ) → top-up-lts.Need-same-length (top-up-calls t) (top-up-at t) top-up.Post
+top-up-same-length t c = omega (arith, c .before .before .before .before .before .before .get-local .kept, c .before .before .before .before .before .before .before .before .before .before .before .before .before .before .before .topped .kept)
 
-top-up-missed-at-requires-4 : (t : ℕ) → top-up-lts.Need-missed-at-requires-4 (top-up-calls t) (top-up-at t) top-up.Post
-top-up-missed-at-requires-4 t c κs = search needs
+top-up-same-length-2 : (t : ℕ) → top-up-lts.Need-same-length-2 (top-up-calls t) (top-up-at t) top-up.Post
+top-up-same-length-2 t c = omega (arith, c .before .before .before .before .before .before .get-local .kept, c .before .before .before .before .before .before .before .before .before .before .before .before .before .before .before .topped .kept)
 
 top-up-same-length-3 : (t : ℕ) → top-up-lts.Need-same-length-3 (top-up-calls t) (top-up-at t) top-up.Post
-top-up-same-length-3 t c = search needs
+top-up-same-length-3 t c = omega (arith, c .before .before .before .before .before .before .get-local .kept, c .before .before .before .before .before .before .before .before .before .before .before .before .before .before .before .topped .kept)
 
-top-up-same-length-4 : (t : ℕ) → top-up-lts.Need-same-length-4 (top-up-calls t) (top-up-at t) top-up.Post
-top-up-same-length-4 t c = search needs
-
-top-up-same-length-5 : (t : ℕ) → top-up-lts.Need-same-length-5 (top-up-calls t) (top-up-at t) top-up.Post
-top-up-same-length-5 t c = search needs
-
-top-up-returns-4 : (t : ℕ) → top-up-lts.Need-returns-4 (top-up-calls t) (top-up-at t) top-up.Post
-unfolding getLocal takeBy topBy onHeld onFound onSync onPut putEntry setRow withTrees withLocals withTry ifte
-top-up-returns-4 t c = (
+top-up-returns-2 : (t : ℕ) → top-up-lts.Need-returns-2 (top-up-calls t) (top-up-at t) top-up.Post
+unfolding onTopped
+top-up-returns-2 t c = (
   rw (
-    topUp-more _ _ _ _ _ _ _ _ (c .before .before .before .before .before .before .before .before .before .before .before .before .before .before .before .before .before .before .before .before .before .before .before .before .if1 .left),
-    ← c .before .before .before .before .before .before .before .before .before .before .before .before .before .before .before .before .before .before .before .before .before .before .before .frames .ensures,
-    le-ltb _ _ (c .before .before .before .before .before .before .before .before .before .before .before .before .before .before .before .before .before .before .before .before .before .before .if2 .left),
-    ← c .before .before .before .before .before .before .before .before .before .before .before .before .before .before .before .before .before .before .before .before .sync .ensures,
-    c .before .before .before .before .before .before .before .before .before .before .before .before .before .before .before .before .x .given .1,
-    ← c .before .before .before .before .before .before .before .before .before .before .before .before .before .put .ensures,
-    not-false (c .before .before .before .before .before .before .before .before .before .before .before .before .before .put .result) (c .before .before .before .before .before .before .before .before .before .before .if3 .left),
-    ← c .before .before .before .before .before .before .get-local .ensures .0,
-  ),
-  (search needs, search needs),
+    topUp-more _ _ _ _ _ _ _ _ (c .before .before .before .before .before .before .before .before .before .before .before .before .before .before .before .before .before .before .before .if1 .left),
+    top-topped _ _ _ _ _ _ _,
+    ← c .before .before .before .before .before .before .before .before .before .before .before .before .before .before .before .before .before .before .frames .ensures,
+    ← c .before .before .before .before .before .before .before .before .before .before .before .before .before .before .before .topped .ensures,
+    c .before .before .before .before .before .before .before .before .before .before .if2 .taken,
+  ) (c .before .before .before .before .before .before .get-local .ensures .0),
+  c .before .before .before .before .before .before .get-local .ensures .1,
 )
 
-top-up-same-length-6 : (t : ℕ) → top-up-lts.Need-same-length-6 (top-up-calls t) (top-up-at t) top-up.Post
-top-up-same-length-6 t c = search needs
+top-up-missed-at-requires-2 : (t : ℕ) → top-up-lts.Need-missed-at-requires-2 (top-up-calls t) (top-up-at t) top-up.Post
+top-up-missed-at-requires-2 t c κs = search needs
 
-top-up-returns-5 : (t : ℕ) → top-up-lts.Need-returns-5 (top-up-calls t) (top-up-at t) top-up.Post
-unfolding getLocal takeBy topBy onHeld onFound onSync onPut putEntry setRow withTrees withLocals withTry ifte
-top-up-returns-5 t c = (
+top-up-same-length-4 : (t : ℕ) → top-up-lts.Need-same-length-4 (top-up-calls t) (top-up-at t) top-up.Post
+top-up-same-length-4 t c = omega (arith, c .before .before .before .before .before .before .topped .kept)
+
+top-up-same-length-5 : (t : ℕ) → top-up-lts.Need-same-length-5 (top-up-calls t) (top-up-at t) top-up.Post
+top-up-same-length-5 t c = omega (arith, c .before .before .before .before .before .before .topped .kept)
+
+top-up-returns-3 : (t : ℕ) → top-up-lts.Need-returns-3 (top-up-calls t) (top-up-at t) top-up.Post
+unfolding onTopped
+top-up-returns-3 t c = (
   rw (
-    topUp-more _ _ _ _ _ _ _ _ (c .before .before .before .before .before .before .before .before .before .if1 .left),
-    ← c .before .before .before .before .before .before .before .before .frames .ensures,
-    le-ltb _ _ (c .before .before .before .before .before .before .before .if2 .left),
-    ← c .before .before .before .before .before .sync .ensures,
-    c .before .enum-told .given .1,
-  ) (c .missed-at4 .ensures .0 _ _ _),
+    topUp-more _ _ _ _ _ _ _ _ (c .before .before .before .before .before .before .before .before .before .before .if1 .left),
+    top-topped _ _ _ _ _ _ _,
+    ← c .before .before .before .before .before .before .before .before .before .frames .ensures,
+    ← c .before .before .before .before .before .before .topped .ensures,
+    c .before .if2 .left,
+  ) (c .missed-at2 .ensures .0 _ _ _),
   (search needs, search needs),
 )
 
 pub +get-local+top-up-spec : {M : Type 1} → statement M
-+get-local+top-up-spec = close μ-get-local μ-top-up (λ t. get-local-lts.spec (
-  frames-reads.Asked,
-  frames-reads.Learnt,
-  take-reads.Asked,
-  take-reads.Learnt,
-  lower-get-reads.Asked,
-  lower-get-reads.Learnt,
-  set-start-reads.Asked,
-  set-start-reads.Learnt,
-  done-reads.Asked,
-  done-reads.Learnt,
-  put-reads′.Asked,
-  put-reads′.Learnt,
-  missed-at-reads.Asked,
-  missed-at-reads.Learnt,
-  top-up-below t,
-  top-up.Post,
-  missed-reads.Asked,
-  missed-reads.Learnt,
-)
++get-local+top-up-spec = close μ-get-local μ-top-up (λ t. get-local-lts.spec (get-local-calls t)
     (get-local-at t)
     get-local.Post
     (get-local-frames-requires t)
-    (get-local-cast-n t)
+    (get-local-cast-take t)
     (get-local-take-requires t)
     (get-local-enum-known-row t)
-    (get-local-lower-get-requires t)
-    (get-local-enum-known-f t)
-    (get-local-set-start-requires t)
-    (get-local-add-done t)
-    (get-local-done-requires t)
-    (get-local-enum-told t)
-    (get-local-put-requires t)
-    (get-local-add-missed-at t)
-    (get-local-missed-at-requires t)
+    (get-local-at-row-requires t)
     (get-local-enum-known-row-2 t)
     (get-local-top-up-requires t)
-    (get-local-enum-told-2 t)
+    (get-local-enum-told t)
     (get-local-missed-requires t)
     (get-local-same-length t)
     (get-local-same-length-2 t)
-    (get-local-returns t)
     (get-local-same-length-3 t)
+    (get-local-returns t)
     (get-local-same-length-4 t)
     (get-local-same-length-5 t)
-    (get-local-returns-2 t)
     (get-local-same-length-6 t)
+    (get-local-returns-2 t)
     (get-local-same-length-7 t)
-    (get-local-same-length-8 t)
-    (get-local-returns-3 t)
-    (get-local-same-length-9 t)
-    (get-local-returns-4 t))
-    λ t. top-up-lts.spec (
-      missed-at-reads.Asked,
-      missed-at-reads.Learnt,
-      frames-reads.Asked,
-      frames-reads.Learnt,
-      sync-reads.Asked,
-      sync-reads.Learnt,
-      put-reads.Asked,
-      put-reads.Learnt,
-      put-reads′.Asked,
-      put-reads′.Learnt,
-      get-local-below t,
-      get-local.Post,
-    )
+    (get-local-returns-3 t))
+    λ t. top-up-lts.spec (top-up-calls t)
     (top-up-at t)
     top-up.Post
     (top-up-missed-at-requires t)
     (top-up-returns t)
     (top-up-frames-requires t)
     (top-up-cast-n t)
-    (top-up-missed-at-requires-2 t)
-    (top-up-returns-2 t)
-    (top-up-sync-requires t)
-    (top-up-enum-known-x t)
-    (top-up-cast-put t)
-    (top-up-put-requires t)
-    (top-up-cast-put-2 t)
-    (top-up-put-requires-2 t)
-    (top-up-missed-at-requires-3 t)
+    (top-up-topped-requires t)
+    (top-up-sub-k t)
+    (top-up-get-local-requires t)
     (top-up-same-length t)
     (top-up-same-length-2 t)
-    (top-up-returns-3 t)
-    (top-up-sub-get-local t)
-    (top-up-get-local-requires t)
-    (top-up-enum-told t)
-    (top-up-missed-at-requires-4 t)
     (top-up-same-length-3 t)
+    (top-up-returns-2 t)
+    (top-up-missed-at-requires-2 t)
     (top-up-same-length-4 t)
     (top-up-same-length-5 t)
-    (top-up-returns-4 t)
-    (top-up-same-length-6 t)
-    (top-up-returns-5 t)
+    (top-up-returns-3 t)

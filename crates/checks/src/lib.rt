@@ -1,0 +1,60 @@
+// The argument tests of a get and a put: the refusals 2 to 6.
+use rules::Given;
+use rules::Header;
+use rules::Request;
+use ways::Outcome;
+use ways::Refusal;
+ghost use mathlib.Core.Path.{_≡_};
+ghost use Prim.Native.Nat.{_<_};
+ghost use Rattle.rules.specs.Words.{config};
+ghost use Rattle.ways.specs.Calls.{outcomeOf, refuseLocal, refuseClass, refusal};
+
+// A local given has to be below its class's number.
+fn check_local(h: Header, table: &[u32; 64], class: usize, local: Given) -> Outcome
+    requires { ⌜ class < 8 ⌝ }
+    ensures { λ r. ⌜ outcomeOf r ≡ refuseLocal (config h (now (table .entry))) class local ⌝ }
+{
+    match local {
+        Given::Nothing => Outcome::Done,
+        Given::Local(i) => {
+            if i < words::locals_of(h, class) {
+                return Outcome::Done;
+            }
+            Outcome::Refused(Refusal::Local)
+        }
+    }
+}
+
+// The class has to be one of 0 to 7, and configured.
+fn check_class(h: Header, table: &[u32; 64], q: Request) -> Outcome
+    ensures { λ r. ⌜ outcomeOf r ≡ refuseClass (config h (now (table .entry))) q ⌝ }
+{
+    if 7 < q.class {
+        return Outcome::Refused(Refusal::Class);
+    }
+    if words::is_configured(h, q.class) {
+        let local = q.local;
+        return check_local(h, table, q.class, local);
+    }
+    Outcome::Refused(Refusal::Class)
+}
+
+// The refusals 2 to 6, tried in that order. The sum of frame and 2^order is not formed, so that nothing wraps.
+pub fn check(h: Header, table: &[u32; 64], q: Request, frame: usize) -> Outcome
+    ensures { λ r. ⌜ outcomeOf r ≡ refusal (config h (now (table .entry))) q frame ⌝ }
+{
+    if 11 < q.order {
+        return Outcome::Refused(Refusal::Order);
+    }
+    let n = bits::size(q.order);
+    if h.frames < n {
+        return Outcome::Refused(Refusal::Bounds);
+    }
+    if h.frames - n < frame {
+        return Outcome::Refused(Refusal::Bounds);
+    }
+    if frame % n == 0 {
+        return check_class(h, table, q);
+    }
+    Outcome::Refused(Refusal::Misaligned)
+}

@@ -1,0 +1,145 @@
+-- `demotes::demote_to` meets its contract. Assumes nothing.
+use native.Mathlib.Omega.{arith}
+use Rattle.steps.specs.Returned.{local-returned, onReturned, unreserve-returned}
+use Rattle.ways.specs.Fits.{given-small}
+use Rattle.ways.specs.Locals.{demoteTo}
+use Rattle.ways.specs.State.{onSwap, withLocals, withTrees}
+use borrow.Author.Tests.{not-true, not-false}
+use borrow.Author.Needs.{needs}
+use Rattle.demotes.proofs.demote_to.Statement.{statement}
+use Rattle.demotes.proofs.demote_to.Tie as tie
+
+enum-known-local : tie.Need-enum-known-local
+enum-known-local c = search needs
+
+slot-requires : tie.Need-slot-requires
+slot-requires c κs = (search needs, given-small _ _ (c .before .before .local .given .1) (c .before .before .before .before .before .before .before .pre .0 .index))
+
+swap-requires : tie.Need-swap-requires
+swap-requires c κs = search needs
+
+unreserve-local-requires : tie.Need-unreserve-local-requires
+unreserve-local-requires c κs = search needs
+
+stuck-requires : tie.Need-stuck-requires
+stuck-requires c κs = search needs
+
+same-length : tie.Need-same-length
+same-length c = omega (arith, c .before .before .before .before .unreserve-local .kept, c .before .before .before .before .before .before .before .before .swap .kept)
+
+same-length-2 : tie.Need-same-length-2
+same-length-2 c = omega (arith, c .before .before .before .before .unreserve-local .kept, c .before .before .before .before .before .before .before .before .swap .kept)
+
+returns : tie.Need-returns
+unfolding demoteTo onSwap onReturned withTrees withLocals
+returns c = (
+  rw (
+    c .before .before .before .before .before .before .before .before .before .before .before .before .local .given .1,
+    ← c .before .before .before .before .before .before .before .before .before .slot .ensures,
+    ← c .before .before .before .before .before .before .before .before .swap .ensures .0,
+    local-returned _ _ _ _ _ _,
+    ← c .before .before .before .before .unreserve-local .ensures,
+    not-true (c .before .before .before .before .unreserve-local .result) (c .before .if1 .taken),
+  ) (c .stuck .ensures .0 _ _ _),
+  omega (arith, c .stuck .ensures .1),
+)
+
+ask-lower-requires : tie.Need-ask-lower-requires
+ask-lower-requires c κs = search needs
+
+enum-told : tie.Need-enum-told
+enum-told c = search needs
+
+unreserve-requires : tie.Need-unreserve-requires
+unreserve-requires c κs = search needs
+
+stuck-requires-2 : tie.Need-stuck-requires-2
+stuck-requires-2 c κs = search needs
+
+same-length-3 : tie.Need-same-length-3
+same-length-3 c = omega (arith, c .before .before .before .before .unreserve .kept)
+
+returns-2 : tie.Need-returns-2
+unfolding demoteTo onSwap onReturned withTrees withLocals
+returns-2 c = (
+  rw (
+    c .before .before .before .before .before .before .before .enum-told .given .1,
+    unreserve-returned _ _ _ _ _ _ _,
+    ← c .before .before .before .before .unreserve .ensures,
+    not-true (c .before .before .before .before .unreserve .result) (c .before .if2 .taken),
+  ) (c .stuck2 .ensures .0 _ _ _),
+  omega (arith, c .stuck2 .ensures .1),
+)
+
+ask-lower-requires-2 : tie.Need-ask-lower-requires-2
+ask-lower-requires-2 c κs = search needs
+
+same-length-4 : tie.Need-same-length-4
+same-length-4 c = omega (arith, c .before .before .before .before .ask-lower .kept, c .before .before .before .before .before .before .before .before .before .before .unreserve-local .kept, c .before .before .before .before .before .before .before .before .before .before .before .before .before .before .swap .kept)
+
+same-length-5 : tie.Need-same-length-5
+same-length-5 c = omega (arith, c .before .before .before .before .ask-lower .kept, c .before .before .before .before .before .before .before .before .before .before .unreserve-local .kept, c .before .before .before .before .before .before .before .before .before .before .before .before .before .before .swap .kept)
+
+same-length-6 : tie.Need-same-length-6
+same-length-6 c = omega (arith, c .before .before .before .before .ask-lower .kept, c .before .before .before .before .before .before .before .before .before .before .unreserve-local .kept, c .before .before .before .before .before .before .before .before .before .before .before .before .before .before .swap .kept)
+
+returns-3 : tie.Need-returns-3
+unfolding demoteTo onSwap onReturned withTrees withLocals
+returns-3 c = (
+  rw (
+    c .before .before .before .before .before .before .before .before .before .before .before .before .before .before .before .before .before .before .local .given .1,
+    ← c .before .before .before .before .before .before .before .before .before .before .before .before .before .before .before .slot .ensures,
+    ← c .before .before .before .before .before .before .before .before .before .before .before .before .before .before .swap .ensures .0,
+    local-returned _ _ _ _ _ _,
+    ← c .before .before .before .before .before .before .before .before .before .before .unreserve-local .ensures,
+    not-false (c .before .before .before .before .before .before .before .before .before .before .unreserve-local .result) (c .before .before .before .before .before .before .before .if1 .left),
+    ← c .before .before .before .before .before .before .before .before .before .before .before .before .before .before .before .before .before .before .local .given .1,
+  ) (c .before .before .before .before .ask-lower .ensures .0 _),
+  omega (arith, c .before .before .before .before .ask-lower .ensures .1),
+)
+
+same-length-7 : tie.Need-same-length-7
+same-length-7 c = omega (arith, c .before .before .before .before .ask-lower2 .kept, c .before .before .before .before .before .before .before .before .before .before .unreserve .kept)
+
+same-length-8 : tie.Need-same-length-8
+same-length-8 c = omega (arith, c .before .before .before .before .ask-lower2 .kept, c .before .before .before .before .before .before .before .before .before .before .unreserve .kept)
+
+returns-4 : tie.Need-returns-4
+unfolding demoteTo onSwap onReturned withTrees withLocals
+returns-4 c = (
+  rw (
+    c .before .before .before .before .before .before .before .before .before .before .before .before .before .enum-told .given .1,
+    unreserve-returned _ _ _ _ _ _ _,
+    ← c .before .before .before .before .before .before .before .before .before .before .unreserve .ensures,
+    not-false (c .before .before .before .before .before .before .before .before .before .before .unreserve .result) (c .before .before .before .before .before .before .before .if2 .left),
+    ← c .before .before .before .before .before .before .before .before .before .before .before .before .before .enum-told .given .1,
+  ) (c .before .before .before .before .ask-lower2 .ensures .0 _),
+  omega (arith, c .before .before .before .before .ask-lower2 .ensures .1),
+)
+
+pub demote-to-spec : {M : Type 1} → statement M
+demote-to-spec =
+    tie.close
+    (tie.spec
+    enum-known-local
+    slot-requires
+    swap-requires
+    unreserve-local-requires
+    stuck-requires
+    same-length
+    same-length-2
+    returns
+    ask-lower-requires
+    enum-told
+    unreserve-requires
+    stuck-requires-2
+    same-length-3
+    returns-2
+    ask-lower-requires-2
+    same-length-4
+    same-length-5
+    same-length-6
+    returns-3
+    same-length-7
+    same-length-8
+    returns-4)

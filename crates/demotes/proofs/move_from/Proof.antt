@@ -1,0 +1,133 @@
+-- `demotes::move_from` meets its contract. Assumes nothing.
+use native.Mathlib.Omega.{arith}
+use Rattle.ways.specs.Locals.{moveFrom}
+use Rattle.ways.specs.State.{onHeld, onSwap, withLocals}
+use borrow.Author.Needs.{needs}
+use Rattle.demotes.proofs.move_from.Statement.{statement}
+use Rattle.demotes.proofs.move_from.Tie as tie
+
+enum-known-payer : tie.Need-enum-known-payer
+enum-known-payer c = search needs
+
+enum-told : tie.Need-enum-told
+enum-told c = search needs
+
+missed-requires : tie.Need-missed-requires
+missed-requires c κs = search needs
+
+returns : tie.Need-returns
+unfolding moveFrom onHeld onSwap withLocals
+returns c = (
+  rw (c .before .enum-told .given .1) (c .missed .ensures .0 _ _ _),
+  omega (arith, c .missed .ensures .1),
+)
+
+frames-requires : tie.Need-frames-requires
+frames-requires c κs = search needs
+
+cast-take : tie.Need-cast-take
+cast-take c = search needs
+
+take-requires : tie.Need-take-requires
+take-requires c κs = search needs
+
+enum-told-2 : tie.Need-enum-told-2
+enum-told-2 c = search needs
+
+clear-requires : tie.Need-clear-requires
+clear-requires c κs = search needs
+
+demote-to-requires : tie.Need-demote-to-requires
+demote-to-requires c κs = search needs
+
+enum-told-3 : tie.Need-enum-told-3
+enum-told-3 c = search needs
+
+missed-requires-2 : tie.Need-missed-requires-2
+missed-requires-2 c κs = search needs
+
+enum-told-4 : tie.Need-enum-told-4
+enum-told-4 c = search needs
+
+missed-requires-3 : tie.Need-missed-requires-3
+missed-requires-3 c κs = search needs
+
+same-length : tie.Need-same-length
+same-length c = omega (arith, c .before .before .before .before .before .before .demote-to .kept, c .before .before .before .before .before .before .before .before .before .before .before .before .clear .kept, c .before .before .before .before .before .before .before .before .before .before .before .before .before .before .before .before .before .before .take .kept)
+
+same-length-2 : tie.Need-same-length-2
+same-length-2 c = omega (arith, c .before .before .before .before .before .before .demote-to .kept, c .before .before .before .before .before .before .before .before .before .before .before .before .clear .kept, c .before .before .before .before .before .before .before .before .before .before .before .before .before .before .before .before .before .before .take .kept)
+
+same-length-3 : tie.Need-same-length-3
+same-length-3 c = omega (arith, c .before .before .before .before .before .before .demote-to .kept, c .before .before .before .before .before .before .before .before .before .before .before .before .clear .kept, c .before .before .before .before .before .before .before .before .before .before .before .before .before .before .before .before .before .before .take .kept)
+
+returns-2 : tie.Need-returns-2
+unfolding moveFrom onHeld onSwap withLocals
+returns-2 c = (
+  rw (
+    c .before .before .before .before .before .before .before .before .before .before .before .before .before .before .before .before .before .before .before .before .before .before .payer .given .1,
+    ← c .before .before .before .before .before .before .before .before .before .before .before .before .before .before .before .before .before .before .before .frames .ensures,
+    ← c .before .before .before .before .before .before .before .before .before .before .before .before .before .before .before .before .before .before .take .ensures,
+    c .before .before .before .before .before .before .before .before .before .before .before .before .before .before .enum-told2 .given .1,
+    ← c .before .before .before .before .before .before .before .before .before .before .before .before .clear .ensures .0,
+    ← c .before .before .before .before .before .before .demote-to .ensures .0,
+  ),
+  omega (arith, c .before .before .before .before .before .before .demote-to .ensures .1),
+)
+
+same-length-4 : tie.Need-same-length-4
+same-length-4 c = omega (arith, c .before .before .before .before .before .take .kept)
+
+returns-3 : tie.Need-returns-3
+unfolding moveFrom onHeld onSwap withLocals
+returns-3 c = (
+  rw (
+    c .before .before .before .before .before .before .before .before .before .payer .given .1,
+    ← c .before .before .before .before .before .before .frames .ensures,
+    ← c .before .before .before .before .before .take .ensures,
+    c .before .enum-told3 .given .1,
+  ) (c .missed2 .ensures .0 _ _ _),
+  omega (arith, c .missed2 .ensures .1),
+)
+
+same-length-5 : tie.Need-same-length-5
+same-length-5 c = omega (arith, c .before .before .before .before .before .take .kept)
+
+returns-4 : tie.Need-returns-4
+unfolding moveFrom onHeld onSwap withLocals
+returns-4 c = (
+  rw (
+    c .before .before .before .before .before .before .before .before .before .payer .given .1,
+    ← c .before .before .before .before .before .before .frames .ensures,
+    ← c .before .before .before .before .before .take .ensures,
+    c .before .enum-told4 .given .1,
+  ) (c .missed3 .ensures .0 _ _ _),
+  omega (arith, c .missed3 .ensures .1),
+)
+
+pub move-from-spec : {M : Type 1} → statement M
+move-from-spec =
+    tie.close
+    (tie.spec
+    enum-known-payer
+    enum-told
+    missed-requires
+    returns
+    frames-requires
+    cast-take
+    take-requires
+    enum-told-2
+    clear-requires
+    demote-to-requires
+    enum-told-3
+    missed-requires-2
+    enum-told-4
+    missed-requires-3
+    same-length
+    same-length-2
+    same-length-3
+    returns-2
+    same-length-4
+    returns-3
+    same-length-5
+    returns-4)

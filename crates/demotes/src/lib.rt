@@ -1,0 +1,112 @@
+// llfree.rs, demote_local: a reservation of another class moves to the given local, or is returned.
+use rules::Given;
+use rules::Header;
+use rules::Held;
+use rules::Local;
+use rules::Name;
+use rules::Payer;
+use rules::Request;
+use ways::Routed;
+ghost use mathlib.Core.Path.{_≡_};
+ghost use Prim.Native.Nat.{_+_, _^_, _<_, _≤_};
+ghost use Rattle.rules.specs.Words.{config};
+ghost use Rattle.ways.specs.State.{st, ended};
+ghost use Rattle.ways.specs.Locals.{demoteTo, moveFrom, demoteLocal};
+ghost use Rattle.ways.specs.Fits.{Fits};
+
+// The reservation l moves to the given local and the displaced one is unreserved, or with no local it is unreserved itself; then the lower is asked.
+fn demote_to(
+    h: Header,
+    table: &[u32; 64],
+    trees: &mut [u32],
+    locals: &mut [u64],
+    bits: &mut [u64],
+    q: Request,
+    name: Name,
+    l: Local,
+    looks: usize,
+    tries: usize,
+) -> Routed
+    requires { ⌜ Fits h q × ((l .free < 2 ^ 32) × ((looks < 2 ^ 32) × (tries < 2 ^ 32))) ⌝ }
+    ensures { λ r. ⌜ (ended r (now (trees .exit)) (now (locals .exit)) (now (bits .exit))
+        ≡ demoteTo (config h (now (table .entry))) q name l (q .local) (st (now (trees .entry)) (now (locals .entry)) (now (bits .entry)) looks tries))
+        × ((r .looks ≤ looks) × (r .tries ≤ tries + 1)) ⌝ }
+{
+    let local = q.local;
+    match local {
+        Given::Local(i) => {
+            let old = local::swap(locals, words::slot(h, q.class, i), l);
+            if !steps::unreserve_local(h, table, trees, q.class, old) {
+                return ends::stuck(looks, tries);
+            }
+            steps::ask_lower(h, table, trees, bits, q, name, l.row, q.class, looks, tries)
+        }
+        Given::Nothing => {
+            if !steps::unreserve(h, table, trees, l.row / 32, q.class, l.free) {
+                return ends::stuck(looks, tries);
+            }
+            steps::ask_lower(h, table, trees, bits, q, name, l.row, q.class, looks, tries)
+        }
+    }
+}
+
+// The reservation is reduced, and leaves its local.
+fn move_from(
+    h: Header,
+    table: &[u32; 64],
+    trees: &mut [u32],
+    locals: &mut [u64],
+    bits: &mut [u64],
+    q: Request,
+    name: Name,
+    payer: Payer,
+    looks: usize,
+    tries: usize,
+) -> Routed
+    requires { ⌜ Fits h q × ((looks < 2 ^ 32) × (tries < 2 ^ 32)) ⌝ }
+    ensures { λ r. ⌜ (ended r (now (trees .exit)) (now (locals .exit)) (now (bits .exit))
+        ≡ moveFrom (config h (now (table .entry))) q name payer (st (now (trees .entry)) (now (locals .entry)) (now (bits .entry)) looks tries))
+        × ((r .looks ≤ looks) × (r .tries ≤ tries + 1)) ⌝ }
+{
+    let Payer::Local { class: _, slot } = payer else {
+        return ends::missed(looks, tries);
+    };
+    match local::take(locals, slot, name, bits::frames(q.order) as usize) {
+        Held::Row(_) => {
+            let l = local::clear(locals, slot);
+            demote_to(h, table, trees, locals, bits, q, name, l, looks, tries)
+        }
+        Held::Few { row: _, free: _ } => ends::missed(looks, tries),
+        Held::Absent => ends::missed(looks, tries),
+    }
+}
+
+// Demote: over the other classes of kind Demote.
+pub fn demote_local(
+    h: Header,
+    table: &[u32; 64],
+    trees: &mut [u32],
+    locals: &mut [u64],
+    bits: &mut [u64],
+    q: Request,
+    name: Name,
+    looks: usize,
+    tries: usize,
+) -> Routed
+    requires { ⌜ Fits h q × ((looks < 2 ^ 32) × (tries < 2 ^ 32)) ⌝ }
+    ensures { λ r. ⌜ (ended r (now (trees .exit)) (now (locals .exit)) (now (bits .exit))
+        ≡ demoteLocal (config h (now (table .entry))) q name (st (now (trees .entry)) (now (locals .entry)) (now (bits .entry)) looks tries))
+        × ((r .looks ≤ looks) × (r .tries ≤ tries + 1)) ⌝ }
+{
+    let local = q.local;
+    let payer = payers::demote_any(
+        h,
+        table,
+        locals,
+        q.class,
+        steps::index_of(local),
+        name,
+        bits::frames(q.order) as usize,
+    );
+    move_from(h, table, trees, locals, bits, q, name, payer, looks, tries)
+}

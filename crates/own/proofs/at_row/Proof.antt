@@ -1,0 +1,96 @@
+-- `own::at_row` meets its contract. Assumes nothing.
+use Rattle.ways.specs.State.{onFound, putEntry, setRow, withLocals, withTrees, withTry}
+use Rattle.own.specs.Own.{atRow}
+use borrow.Author.Needs.{needs}
+use Rattle.own.proofs.at_row.Statement.{statement}
+use Rattle.own.proofs.at_row.Tie as tie
+
+lower-get-requires : tie.Need-lower-get-requires
+lower-get-requires c κs = search needs
+
+enum-known-f : tie.Need-enum-known-f
+enum-known-f c = search needs
+
+set-start-requires : tie.Need-set-start-requires
+set-start-requires c κs = search needs
+
+add-done : tie.Need-add-done
+add-done c = search needs
+
+done-requires : tie.Need-done-requires
+done-requires c κs = search needs
+
+enum-told : tie.Need-enum-told
+enum-told c = search needs
+
+frames-requires : tie.Need-frames-requires
+frames-requires c κs = search needs
+
+cast-put : tie.Need-cast-put
+cast-put c = search needs
+
+put-requires : tie.Need-put-requires
+put-requires c κs = search needs
+
+add-missed-at : tie.Need-add-missed-at
+add-missed-at c = search needs
+
+missed-at-requires : tie.Need-missed-at-requires
+missed-at-requires c κs = search needs
+
+same-length : tie.Need-same-length
+same-length c = search needs
+
+same-length-2 : tie.Need-same-length-2
+same-length-2 c = search needs
+
+returns : tie.Need-returns
+unfolding atRow onFound putEntry setRow withTrees withLocals withTry
+returns c = (
+  rw (
+    ← c .before .before .before .before .before .before .before .before .before .before .lower-get .ensures,
+    c .before .before .before .before .before .before .f .given .1,
+    ← c .before .before .before .set-start .ensures,
+  ) (c .done .ensures .0 _ _ _),
+  (search needs, search needs),
+)
+
+same-length-3 : tie.Need-same-length-3
+same-length-3 c = search needs
+
+same-length-4 : tie.Need-same-length-4
+same-length-4 c = search needs
+
+returns-2 : tie.Need-returns-2
+unfolding atRow onFound putEntry setRow withTrees withLocals withTry
+returns-2 c = (
+  rw (
+    ← c .before .before .before .before .before .before .before .before .before .before .lower-get .ensures,
+    c .before .before .before .before .before .before .enum-told .given .1,
+    ← c .before .before .before .before .frames .ensures,
+    ← c .before .before .before .put .ensures,
+  ) (c .missed-at .ensures .0 _ _ _),
+  (search needs, search needs),
+)
+
+pub at-row-spec : {M : Type 1} → statement M
+at-row-spec =
+    tie.close
+    (tie.spec
+    lower-get-requires
+    enum-known-f
+    set-start-requires
+    add-done
+    done-requires
+    enum-told
+    frames-requires
+    cast-put
+    put-requires
+    add-missed-at
+    missed-at-requires
+    same-length
+    same-length-2
+    returns
+    same-length-3
+    same-length-4
+    returns-2)

@@ -1,0 +1,16 @@
+-- `payers::demote_any` meets its contract. Assumes nothing.
+use Rattle.rules.specs.Locals.{demoteAny}
+use borrow.Author.Needs.{needs}
+use Rattle.payers.proofs.demote_any.Statement.{statement}
+use Rattle.payers.proofs.demote_any.Tie as tie
+
+payer-in-requires : tie.Need-payer-in-requires
+payer-in-requires c κs = search needs
+
+returns : tie.Need-returns
+unfolding demoteAny
+returns c =
+    rw (← c .payer-in .ensures)
+
+pub demote-any-spec : {M : Type 1} → statement M
+demote-any-spec = tie.close (tie.spec payer-in-requires returns)

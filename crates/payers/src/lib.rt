@@ -1,0 +1,174 @@
+// Which local pays: the first that has enough, over the locals of a class and over the classes. Reads the lent words, stores none.
+use rules::Header;
+use rules::Kind;
+use rules::Local;
+use rules::Name;
+use rules::Payer;
+ghost use mathlib.Core.Path.{_≡_};
+ghost use Prim.Native.Nat.{_+_, _-_, _^_, _<_};
+ghost use lib.Dec.{eqb};
+ghost use Rattle.rules.specs.Base.{pick};
+ghost use Rattle.rules.specs.Words.{config};
+ghost use Rattle.rules.specs.Locals.{hasEnough, mayPay, mayMove, payerIn, stealAny, demoteAny};
+ghost use Rattle.payers.specs.Loops.{payerOf, payerAt};
+
+// Whether a local has enough, and the named tree.
+fn has_enough(l: Local, name: Name, n: usize) -> bool
+    ensures { λ r. ⌜ r ≡ hasEnough 11 l name n ⌝ }
+{
+    if l.present {
+        if local::in_tree(l.row, name) {
+            return n <= l.free;
+        }
+        return false;
+    }
+    false
+}
+
+// The place after j, round the places from first up to end.
+fn after(first: usize, end: usize, j: usize) -> usize
+    requires { ⌜ j < 2 ^ 32 ⌝ }
+    ensures { λ r. ⌜ r ≡ pick (eqb (j + 1) end) first (j + 1) ⌝ }
+{
+    if j + 1 == end { first } else { j + 1 }
+}
+
+// The first local of a class, from the given index cyclically, that has enough.
+fn first_local(h: Header, locals: &[u64], class: usize, from: usize, name: Name, n: usize) -> Payer
+    requires { ⌜ class < 8 ⌝ }
+    ensures { λ r. ⌜ r ≡ payerOf 11 (h .places) (now (locals .entry)) class from name n ⌝ }
+{
+    let len = words::locals_of(h, class);
+    if len == 0 {
+        return Payer::Nobody;
+    }
+    let first = words::first_slot(h, class);
+    let end = first + len;
+    let mut j = first + from % len;
+    for d in 0..len {
+        if has_enough(local::load(locals, j), name, n) {
+            return Payer::Local {
+                class: class,
+                slot: j,
+            };
+        }
+        j = after(first, end, j);
+    }
+    Payer::Nobody
+}
+
+// Whether a kind pays: Steal or Match.
+fn may_pay(kind: Kind) -> bool
+    ensures { λ r. ⌜ r ≡ mayPay kind ⌝ }
+{
+    match kind {
+        Kind::Invalid => false,
+        Kind::Steal => true,
+        Kind::Demote => false,
+        Kind::Match(_) => true,
+    }
+}
+
+// Whether a kind lets a reservation move: Demote.
+fn may_move(kind: Kind) -> bool
+    ensures { λ r. ⌜ r ≡ mayMove kind ⌝ }
+{
+    match kind {
+        Kind::Invalid => false,
+        Kind::Steal => false,
+        Kind::Demote => true,
+        Kind::Match(_) => false,
+    }
+}
+
+// The test of a demote, or else of a steal.
+fn may(demote: bool, kind: Kind) -> bool
+    ensures { λ r. ⌜ r ≡ pick demote mayMove mayPay kind ⌝ }
+{
+    if demote {
+        may_move(kind)
+    } else {
+        may_pay(kind)
+    }
+}
+
+// The local of the class k that pays for a request of another class.
+fn payer_at(
+    h: Header,
+    table: &[u32; 64],
+    locals: &[u64],
+    class: usize,
+    from: usize,
+    name: Name,
+    n: usize,
+    demote: bool,
+    k: usize,
+) -> Payer
+    requires { ⌜ (class < 8) × (k < 8) ⌝ }
+    ensures { λ r. ⌜ r ≡ payerAt (pick demote mayMove mayPay) (config h (now (table .entry))) (now (locals .entry)) class from name n k ⌝ }
+{
+    if words::is_configured(h, k) {
+        if may(demote, words::ask(h, table, class, k, n)) {
+            return first_local(h, locals, k, from, name, n);
+        }
+        return Payer::Nobody;
+    }
+    Payer::Nobody
+}
+
+// The first local that pays, over the classes from the i-th after the requested one on, modulo 8.
+fn payer_in(
+    h: Header,
+    table: &[u32; 64],
+    locals: &[u64],
+    class: usize,
+    from: usize,
+    name: Name,
+    n: usize,
+    demote: bool,
+    i: usize,
+) -> Payer
+    requires { ⌜ class < 8 ⌝ }
+    ensures { λ r. ⌜ r ≡ payerIn (pick demote mayMove mayPay) (config h (now (table .entry))) (now (locals .entry)) class from name n i (8 - i) ⌝ }
+{
+    for d in i..8 {
+        let k = (class + d) % 8;
+        let payer = payer_at(h, table, locals, class, from, name, n, demote, k);
+        if let Payer::Local { class: _, slot: _ } = payer {
+            return payer;
+        }
+    }
+    Payer::Nobody
+}
+
+// Steal: the first local that pays, over all classes from the requested one on.
+pub fn steal_any(
+    h: Header,
+    table: &[u32; 64],
+    locals: &[u64],
+    class: usize,
+    from: usize,
+    name: Name,
+    n: usize,
+) -> Payer
+    requires { ⌜ class < 8 ⌝ }
+    ensures { λ r. ⌜ r ≡ stealAny (config h (now (table .entry))) (now (locals .entry)) class from name n ⌝ }
+{
+    payer_in(h, table, locals, class, from, name, n, false, 0)
+}
+
+// Demote: the first local whose reservation may move, over the other classes.
+pub fn demote_any(
+    h: Header,
+    table: &[u32; 64],
+    locals: &[u64],
+    class: usize,
+    from: usize,
+    name: Name,
+    n: usize,
+) -> Payer
+    requires { ⌜ class < 8 ⌝ }
+    ensures { λ r. ⌜ r ≡ demoteAny (config h (now (table .entry))) (now (locals .entry)) class from name n ⌝ }
+{
+    payer_in(h, table, locals, class, from, name, n, true, 1)
+}

@@ -1,0 +1,73 @@
+// A tree that was reserved: the lower is asked, and the reservation stored in a local, or undone.
+use rules::Found;
+use rules::Header;
+use rules::Local;
+use rules::Name;
+use rules::Request;
+use ways::Routed;
+ghost use mathlib.Core.Path.{_≡_};
+ghost use Prim.Native.Nat.{_+_, _-_, _*_, _^_, _<_, _≤_};
+ghost use Rattle.rules.specs.Words.{config};
+ghost use Rattle.rules.specs.Locals.{reservation};
+ghost use Rattle.ways.specs.State.{st, ended};
+ghost use Rattle.ways.specs.Walk.{reserved};
+ghost use Rattle.ways.specs.Fits.{Fits};
+
+// a less b, 0 where b is more.
+fn less(a: usize, b: usize) -> usize
+    ensures { λ r. ⌜ r ≡ a - b ⌝ }
+{
+    if a < b {
+        return 0;
+    }
+    a - b
+}
+
+// A reservation of tree t, at its first row.
+fn reservation(t: usize, free: usize) -> Local
+    requires { ⌜ t < 2 ^ 53 ⌝ }
+    ensures { λ r. ⌜ r ≡ reservation (t * 32) free ⌝ }
+{
+    Local {
+        row: t * 32,
+        free: free,
+        present: true,
+    }
+}
+
+// Tree t was reserved with so many free: the lower is asked, the reservation stored in the local j, the one it replaces returned; refused, it is undone.
+pub fn reserved(
+    h: Header,
+    table: &[u32; 64],
+    trees: &mut [u32],
+    locals: &mut [u64],
+    bits: &mut [u64],
+    q: Request,
+    j: usize,
+    t: usize,
+    old: u32,
+    looks: usize,
+    tries: usize,
+) -> Routed
+    requires { ⌜ Fits h q × ((t < 2 ^ 53) × ((looks < 2 ^ 32) × (tries < 2 ^ 32))) ⌝ }
+    ensures { λ r. ⌜ (ended r (now (trees .exit)) (now (locals .exit)) (now (bits .exit))
+        ≡ reserved (config h (now (table .entry))) q j t old (st (now (trees .entry)) (now (locals .entry)) (now (bits .entry)) looks tries))
+        × ((r .looks ≤ looks) × (r .tries ≤ tries + 1)) ⌝ }
+{
+    match lower::lower_get(bits, t * 32, q.order, Name::Any) {
+        Found::At(f) => {
+            let free = less(old as usize, bits::frames(q.order) as usize);
+            let l = local::swap(locals, j, reservation(t, free));
+            if steps::unreserve_local(h, table, trees, q.class, l) {
+                return ends::done(f, q.class, looks, tries + 1);
+            }
+            ends::stuck(looks, tries + 1)
+        }
+        Found::Nothing => {
+            if steps::unreserve(h, table, trees, t, q.class, old as usize) {
+                return ends::missed(looks, tries + 1);
+            }
+            ends::stuck(looks, tries + 1)
+        }
+    }
+}

@@ -1,0 +1,65 @@
+// The whole of the statistics by value: total free and free trees.
+use rules::Header;
+ghost use mathlib.Core.Path.{_≡_};
+ghost use Prim.Native.Nat.{_^_, _<_, _≤_};
+ghost use Rattle.rules.specs.Words.{config};
+ghost use Rattle.ways.specs.Statistics.{totalFree, freeTrees};
+ghost use Rattle.totals.specs.Wholes.{entriesFree, entriesWhole, localsFree, localsWhole};
+
+// Total free, and free trees.
+pub struct Whole {
+    pub free: usize,
+    pub trees: usize,
+}
+
+// Total free and free trees of the first n entries.
+fn entries_whole(trees: &[u32], n: usize) -> Whole
+    requires { ⌜ n ≤ 1024 ⌝ }
+    ensures { λ r. ⌜ (r .free ≡ entriesFree (now (trees .entry)) n) × ((r .trees ≡ entriesWhole 11 (now (trees .entry)) n)
+        × ((r .free ≤ 2 ^ 38) × (r .trees ≤ 2 ^ 38))) ⌝ }
+{
+    let mut free: usize = 0;
+    let mut whole: usize = 0;
+    for t in 0..n {
+        let e = trees::load(trees, t);
+        free = free + e.free;
+        whole = whole + e.free / 2048;
+    }
+    Whole {
+        free: free,
+        trees: whole,
+    }
+}
+
+// Total free and free trees of the first n locals.
+fn locals_whole(locals: &[u64], n: usize) -> Whole
+    requires { ⌜ n < 2048 ⌝ }
+    ensures { λ r. ⌜ (r .free ≡ localsFree (now (locals .entry)) n) × ((r .trees ≡ localsWhole 11 (now (locals .entry)) n)
+        × ((r .free ≤ 2 ^ 38) × (r .trees ≤ 2 ^ 38))) ⌝ }
+{
+    let mut free: usize = 0;
+    let mut whole: usize = 0;
+    for j in 0..n {
+        let l = local::load(locals, j);
+        free = free + l.free;
+        whole = whole + l.free / 2048;
+    }
+    Whole {
+        free: free,
+        trees: whole,
+    }
+}
+
+// Total free sums entries and locals; free trees are each entry's and each local's, rounded down, then summed.
+pub fn totals(h: Header, table: &[u32; 64], trees: &[u32], locals: &[u64]) -> Whole
+    requires { ⌜ h .frames ≤ 2 ^ 21 ⌝ }
+    ensures { λ r. ⌜ (r .free ≡ totalFree (config h (now (table .entry))) (now (trees .entry)) (now (locals .entry)))
+        × (r .trees ≡ freeTrees (config h (now (table .entry))) (now (trees .entry)) (now (locals .entry))) ⌝ }
+{
+    let a = entries_whole(trees, words::tree_count(h.frames));
+    let b = locals_whole(locals, words::first_slot(h, 8));
+    Whole {
+        free: a.free + b.free,
+        trees: a.trees + b.trees,
+    }
+}
