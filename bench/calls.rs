@@ -1,8 +1,8 @@
 //! The exported calls by number of trees: state test, statistics, drain, start, get and put.
 
-use crate::measure::case;
+use crate::measure::{case, cold_case};
 use crate::port::Port;
-use crate::report::{Kind, Report};
+use crate::report::{COLD, Kind, Report};
 use crate::side::{Ask, Call, Header, Side, Table, Words, table};
 
 pub const TREES: [usize; 5] = [1, 8, 64, 200, 1024];
@@ -53,7 +53,7 @@ pub fn reserved(n: usize) -> Words {
 fn whole_state(to: &mut Report, n: usize) {
     let (h, words) = (header(n), reserved(n));
     for (name, call) in [("state test", Call::Stands), ("statistics", Call::Figures), ("drain", Call::Drain)] {
-        to.add(Kind::Call, name, n, case(h, table(), &words, &[call], 0));
+        to.time(Kind::Call, name, n, || case(h, table(), &words, &[call], 0));
     }
     let part = Header { frames: h.frames - 700, ..h };
     for (name, h, call) in [
@@ -62,7 +62,8 @@ fn whole_state(to: &mut Report, n: usize) {
         ("start, all held", h, Call::Start(false)),
         ("start, all free, against `LLFree::new`", h, Call::New(true)),
     ] {
-        to.add(Kind::Call, name, n, case(h, table(), &words, &[call], 0));
+        to.time(Kind::Call, name, n, || case(h, table(), &words, &[call], 0));
+        to.time(Kind::Call, &format!("{name}{COLD}"), n, || cold_case(h, table(), &words, &[call], 0));
     }
 }
 
@@ -76,8 +77,8 @@ fn gets_and_puts(to: &mut Report, n: usize, named: bool, q: Ask) {
     let (free, _) = after(h, table(), &words, &puts(&frames));
     let (held, frames) = after(h, table(), &free, &gets);
     let name = format!("order {}, {}, {}", q.order, if named { "named" } else { "unnamed" }, if q.local.is_some() { "local" } else { "no local" });
-    to.add(Kind::Call, &format!("get, {name}"), n, case(h, table(), &free, &gets, 0));
-    to.add(Kind::Call, &format!("put, {name}"), n, case(h, table(), &held, &puts(&frames), 0));
+    to.time(Kind::Call, &format!("get, {name}"), n, || case(h, table(), &free, &gets, 0));
+    to.time(Kind::Call, &format!("put, {name}"), n, || case(h, table(), &held, &puts(&frames), 0));
 }
 
 pub fn run(to: &mut Report) {

@@ -1,5 +1,6 @@
 //! Timing: each case is timed in alternating samples, port then Rust, and the best of each side counts.
 
+use std::arch::x86_64::{_mm_clflush, _mm_mfence};
 use std::hint::black_box;
 use std::time::Instant;
 
@@ -58,13 +59,25 @@ pub fn both(mut port: impl FnMut() -> usize, mut rust: impl FnMut() -> usize) ->
     best(|n| timed(&mut port, n), |n| timed(&mut rust, n))
 }
 
-/// Seconds of one of the calls, made one after the other on each of the sides, the words set before each round.
-fn timed<S: Side>(sides: &mut [S], words: &Words, calls: &[Call], repeat: usize, clock: f64) -> f64 {
+/// Takes words out of all caches.
+pub fn flush<T>(words: &[T]) {
+    let (at, bytes) = (words.as_ptr().cast::<u8>(), size_of_val(words));
+    for i in (0..bytes).step_by(64).chain(bytes.checked_sub(1)) {
+        unsafe { _mm_clflush(at.add(i)) };
+    }
+}
+
+/// Seconds of one of the calls, made one after the other on each of the sides, the words set before each round and, if `cold`, taken out of all caches.
+fn timed<S: Side>(sides: &mut [S], words: &Words, calls: &[Call], cold: bool, repeat: usize, clock: f64) -> f64 {
     let mut sum = 0.0;
     for _ in 0..repeat {
         for s in sides.iter_mut() {
             s.set(words);
+            if cold {
+                s.flush();
+            }
         }
+        unsafe { _mm_mfence() };
         let t = Instant::now();
         for s in sides.iter_mut() {
             for &c in calls {
@@ -79,13 +92,22 @@ fn timed<S: Side>(sides: &mut [S], words: &Words, calls: &[Call], repeat: usize,
 /// The calls, one after the other from these words, timed. Before that each answer and all words after each call are
 /// compared, and the words again when all is timed. `want` is the number that every call has to end in.
 pub fn case(h: Header, table: Table, words: &Words, calls: &[Call], want: usize) -> Times {
+    compared(h, table, words, calls, want, false)
+}
+
+/// The same with the words out of all caches when the calls begin.
+pub fn cold_case(h: Header, table: Table, words: &Words, calls: &[Call], want: usize) -> Times {
+    compared(h, table, words, calls, want, true)
+}
+
+fn compared(h: Header, table: Table, words: &Words, calls: &[Call], want: usize, cold: bool) -> Times {
     // More sides than one where the calls are too short for the clock.
     let count = (32 / (h.trees() * calls.len())).max(1);
     let mut ports: Vec<Port> = (0..count).map(|_| Side::new(h, table)).collect();
     let mut rusts: Vec<Rust> = (0..count).map(|_| Side::new(h, table)).collect();
     agree(&mut ports[0], &mut rusts[0], words, calls, want);
     let clock = clock();
-    let t = best(|n| timed(&mut ports, words, calls, n, clock), |n| timed(&mut rusts, words, calls, n, clock));
+    let t = best(|n| timed(&mut ports, words, calls, cold, n, clock), |n| timed(&mut rusts, words, calls, cold, n, clock));
     assert!(ports.iter().zip(&rusts).all(|(p, r)| p.words() == r.words()), "the two sides left different words");
     t
 }

@@ -21,7 +21,7 @@ fn full(to: &mut Report, n: usize) {
             for local in [None, Some(0)] {
                 let name = format!("one frame free: get, order {order}, class {class}, {}, ends in {ends}", if local.is_some() { "local" } else { "no local" });
                 let get = Call::Get(None, Ask { order, class, local });
-                to.add(Kind::Worst, &name, n, case(h, table(), &words, &[get], want));
+                to.time(Kind::Worst, &name, n, || case(h, table(), &words, &[get], want));
             }
         }
     }
@@ -60,7 +60,7 @@ fn locals(to: &mut Report, n: usize) {
         ("get, order 0, unnamed, local, ends in Memory", &none_free, own, 7),
         ("get, order 0, unnamed, no local, ends in Memory", &none_free, any, 7),
     ] {
-        to.add(Kind::Worst, &format!("256 locals: {name}"), n, case(h, table_of_eight(), words, &[call], want));
+        to.time(Kind::Worst, &format!("256 locals: {name}"), n, || case(h, table_of_eight(), words, &[call], want));
     }
 }
 
