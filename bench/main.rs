@@ -19,7 +19,7 @@ use report::{Kind, Report};
 /// All cases are timed so often, far apart, that a disturbance of some seconds does not count.
 const PASSES: usize = 3;
 /// So often at most the rows that are above a goal are timed again.
-const MORE: usize = 5;
+const MORE: usize = 3;
 
 fn pass(r: &mut Report) {
     parts::run(r);
@@ -45,8 +45,7 @@ fn main() {
         text = text.replace(&format!("{{{name}}}"), fact);
     }
     for (name, made) in [
-        ("{goals}", r.goals(&stack)),
-        ("{reasons}", r.reasons()),
+        ("{goals}", r.goals(&stack) + &r.reasons()),
         ("{calls}", r.table(Kind::Call)),
         ("{worst}", r.table(Kind::Worst)),
         ("{parts}", r.parts()),

@@ -166,7 +166,7 @@ impl Report {
         for r in missed.iter().filter(|r| !REASONS.iter().any(|(begins, has, _)| is_of(r, begins, has))) {
             said.push(format!("- {}: no reason is known.\n", r.name));
         }
-        if said.is_empty() { String::new() } else { format!("Where a goal is not met:\n\n{}", said.concat()) }
+        if said.is_empty() { String::new() } else { format!("\nWhere a goal is not met:\n\n{}", said.concat()) }
     }
 
     pub fn stack(&self, stack: &[Deepest]) -> String {
