@@ -18,8 +18,8 @@ use report::{Kind, Report};
 
 /// All cases are timed so often, far apart, that a disturbance of some seconds does not count.
 const PASSES: usize = 3;
-/// So often at most the rows that are above a goal are timed again.
-const MORE: usize = 3;
+/// So often at most the cases that are above a goal are timed again.
+const MORE: usize = 8;
 
 fn pass(r: &mut Report) {
     parts::run(r);

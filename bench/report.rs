@@ -26,7 +26,7 @@ const STACK: usize = 4096;
 /// Ends the name of a row whose calls begin with their words in no cache.
 pub const COLD: &str = ", cold";
 
-/// What is known of rows above a goal: how the name begins, what it has in it, and the reason.
+/// What is known of rows slower than the goal: how the name begins, what it has in it, and the reason.
 const REASONS: [(&str, &str, &str); 1] = [(
     "get",
     " unnamed",
@@ -52,16 +52,28 @@ impl Row {
     fn counted(&self) -> Option<f64> {
         if self.name.starts_with("start") && !self.name.ends_with(COLD) { None } else { self.growth() }
     }
-    /// Whether a figure is above its goal.
-    fn misses(&self) -> bool {
-        self.times.iter().any(|t| t.1.ratio() > goal(self.kind)) || self.counted().is_some_and(|g| g > GROWTH)
+    /// Whether it grows by more than the goal.
+    fn grows(&self) -> bool {
+        self.counted().is_some_and(|g| g > GROWTH)
+    }
+    /// Whether it is slower than the goal, at so many trees.
+    fn slow_at(&self, n: usize) -> bool {
+        self.at(n).is_some_and(|t| t.ratio() > goal(self.kind))
+    }
+    /// Whether it is slower than the goal somewhere.
+    fn slow(&self) -> bool {
+        self.times.iter().any(|t| self.slow_at(t.0))
+    }
+    /// Whether its time at so many trees is part of a figure above a goal.
+    fn misses_at(&self, n: usize) -> bool {
+        self.slow_at(n) || self.grows() && (n == 64 || n == 1024)
     }
 }
 
 #[derive(Default)]
 pub struct Report {
     pub rows: Vec<Row>,
-    /// Only rows above a goal are timed.
+    /// Only cases above a goal are timed.
     pub above_alone: bool,
 }
 
@@ -84,12 +96,12 @@ fn bold(value: f64, digits: usize, goal: f64) -> String {
 impl Report {
     /// Whether some row is above a goal.
     pub fn misses(&self) -> bool {
-        self.rows.iter().any(Row::misses)
+        self.rows.iter().any(|r| r.slow() || r.grows())
     }
 
     /// Times a case, where it is asked for; of several times the best of each side stays.
     pub fn time(&mut self, kind: Kind, name: &str, trees: usize, measure: impl FnOnce() -> Times) {
-        if self.above_alone && !self.rows.iter().any(|r| r.kind == kind && r.name == name && r.misses()) {
+        if self.above_alone && !self.rows.iter().any(|r| r.kind == kind && r.name == name && r.misses_at(trees)) {
             return;
         }
         let times = measure();
@@ -156,15 +168,18 @@ impl Report {
     /// Why goals are not met: the reasons that are known, and the rows for which none is. Nothing where all are met.
     pub fn reasons(&self) -> String {
         let is_of = |r: &Row, begins: &str, has: &str| r.name.starts_with(begins) && r.name.contains(has);
-        let missed: Vec<&Row> = self.rows.iter().filter(|r| r.misses()).collect();
+        let slow: Vec<&Row> = self.rows.iter().filter(|r| r.slow()).collect();
         let mut said: Vec<String> = vec![];
         for (begins, has, reason) in REASONS {
-            if missed.iter().any(|r| is_of(r, begins, has)) {
+            if slow.iter().any(|r| is_of(r, begins, has)) {
                 said.push(format!("- {reason}\n"));
             }
         }
-        for r in missed.iter().filter(|r| !REASONS.iter().any(|(begins, has, _)| is_of(r, begins, has))) {
+        for r in slow.iter().filter(|r| !REASONS.iter().any(|(begins, has, _)| is_of(r, begins, has))) {
             said.push(format!("- {}: no reason is known.\n", r.name));
+        }
+        for r in self.rows.iter().filter(|r| r.grows()) {
+            said.push(format!("- The growth of \"{}\": no reason is known.\n", r.name));
         }
         if said.is_empty() { String::new() } else { format!("\nWhere a goal is not met:\n\n{}", said.concat()) }
     }
