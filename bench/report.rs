@@ -1,7 +1,7 @@
 //! What was measured, as tables in Markdown; whether each goal is met is worked out here.
 
 use crate::calls::TREES;
-use crate::measure::Times;
+use crate::measure::{Case, Times, row};
 use crate::stack::{Deepest, KINDS};
 
 #[derive(Clone, Copy, PartialEq)]
@@ -33,20 +33,56 @@ const REASONS: [(&str, &str, &str); 1] = [(
     "An unnamed get: the routes hand their results on by value through memory, as structs with an enum inside. It shows on few trees, where the state test, most of a call from 64 trees on, is short.",
 )];
 
+/// What is to be timed for a row: its cases by number of trees.
+pub struct Asked {
+    kind: Kind,
+    name: String,
+    cases: Vec<(usize, Case)>,
+}
+
+/// All rows of calls, as they are to be timed.
+#[derive(Default)]
+pub struct Cases(pub Vec<Asked>);
+
+impl Cases {
+    pub fn add(&mut self, kind: Kind, name: &str, trees: usize, case: Case) {
+        match self.0.iter_mut().find(|a| a.kind == kind && a.name == name) {
+            Some(a) => a.cases.push((trees, case)),
+            None => self.0.push(Asked { kind, name: name.into(), cases: vec![(trees, case)] }),
+        }
+    }
+}
+
 pub struct Row {
     pub kind: Kind,
     pub name: String,
     /// By number of trees, 0 for a part.
     pub times: Vec<(usize, Times)>,
+    /// Time of the port at 1,024 trees over that at 64, of each pass.
+    growths: Vec<f64>,
 }
 
 impl Row {
     pub fn at(&self, n: usize) -> Option<Times> {
         self.times.iter().find(|t| t.0 == n).map(|t| t.1)
     }
-    /// Time of the port at 1,024 trees over that at 64.
+    /// The middle one of the passes' growths.
     fn growth(&self) -> Option<f64> {
-        Some(self.at(1024)?.port / self.at(64)?.port)
+        let mut all = self.growths.clone();
+        all.sort_by(f64::total_cmp);
+        all.get(all.len() / 2).copied()
+    }
+    /// Takes times of one pass in; of several the best of each side stays.
+    fn take(&mut self, pass: &[(usize, Times)]) {
+        for &(n, new) in pass {
+            eprintln!("{}, {n} trees: {} {} {:.2}", self.name, micros(new.port), micros(new.rust), new.ratio());
+            match self.times.iter_mut().find(|t| t.0 == n) {
+                Some((_, t)) => *t = t.best(new),
+                None => self.times.push((n, new)),
+            }
+        }
+        let port = |n: usize| pass.iter().find(|t| t.0 == n).map(|t| t.1.port);
+        self.growths.extend(port(1024).zip(port(64)).map(|(a, b)| a / b));
     }
     /// The growth that the goal counts: not that of a start on words in a cache, which is the caches' own.
     fn counted(&self) -> Option<f64> {
@@ -99,21 +135,33 @@ impl Report {
         self.rows.iter().any(|r| r.slow() || r.grows())
     }
 
-    /// Times a case, where it is asked for; of several times the best of each side stays.
-    pub fn time(&mut self, kind: Kind, name: &str, trees: usize, measure: impl FnOnce() -> Times) {
-        if self.above_alone && !self.rows.iter().any(|r| r.kind == kind && r.name == name && r.misses_at(trees)) {
-            return;
-        }
-        let times = measure();
-        eprintln!("{name}, {trees} trees: {} {} {:.2}", micros(times.port), micros(times.rust), times.ratio());
+    /// The row of this name, a new one where there is none.
+    fn row(&mut self, kind: Kind, name: &str) -> &mut Row {
         let at = self.rows.iter().position(|r| r.kind == kind && r.name == name).unwrap_or(self.rows.len());
         if at == self.rows.len() {
-            self.rows.push(Row { kind, name: name.into(), times: vec![] });
+            self.rows.push(Row { kind, name: name.into(), times: vec![], growths: vec![] });
         }
-        let row = &mut self.rows[at].times;
-        match row.iter_mut().find(|t| t.0 == trees) {
-            Some((_, t)) => *t = Times { port: t.port.min(times.port), rust: t.rust.min(times.rust) },
-            None => row.push((trees, times)),
+        &mut self.rows[at]
+    }
+
+    /// Whether a case is to be timed in this pass.
+    fn asks(&self, kind: Kind, name: &str, trees: usize) -> bool {
+        !self.above_alone || self.rows.iter().any(|r| r.kind == kind && r.name == name && r.misses_at(trees))
+    }
+
+    /// Times a part, where it is asked for.
+    pub fn part(&mut self, name: &str, measure: impl FnOnce() -> Times) {
+        if self.asks(Kind::Part, name, 0) {
+            self.row(Kind::Part, name).take(&[(0, measure())]);
+        }
+    }
+
+    /// Times those cases of a row that are asked for.
+    pub fn calls(&mut self, asked: &Asked) {
+        let (trees, cases): (Vec<usize>, Vec<&Case>) = asked.cases.iter().filter(|c| self.asks(asked.kind, &asked.name, c.0)).map(|c| (c.0, &c.1)).unzip();
+        if !cases.is_empty() {
+            let pass: Vec<(usize, Times)> = trees.into_iter().zip(row(&cases)).collect();
+            self.row(asked.kind, &asked.name).take(&pass);
         }
     }
 
