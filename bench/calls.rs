@@ -1,8 +1,8 @@
 //! The exported calls by number of trees: state test, statistics, drain, start, get and put.
 
-use crate::measure::case;
+use crate::measure::Case;
 use crate::port::Port;
-use crate::report::{Kind, Report};
+use crate::report::{COLD, Cases, Kind};
 use crate::side::{Ask, Call, Header, Side, Table, Words, table};
 
 pub const TREES: [usize; 5] = [1, 8, 64, 200, 1024];
@@ -50,10 +50,15 @@ pub fn reserved(n: usize) -> Words {
     words
 }
 
-fn whole_state(to: &mut Report, n: usize) {
+/// Calls with table T that are all Done, on words as setting them left them in the caches.
+fn warm(h: Header, words: &Words, calls: Vec<Call>) -> Case {
+    Case { h, table: table(), words: words.clone(), calls, want: 0, cold: false }
+}
+
+fn whole_state(to: &mut Cases, n: usize) {
     let (h, words) = (header(n), reserved(n));
     for (name, call) in [("state test", Call::Stands), ("statistics", Call::Figures), ("drain", Call::Drain)] {
-        to.add(Kind::Call, name, n, case(h, table(), &words, &[call], 0));
+        to.add(Kind::Call, name, n, warm(h, &words, vec![call]));
     }
     let part = Header { frames: h.frames - 700, ..h };
     for (name, h, call) in [
@@ -62,12 +67,13 @@ fn whole_state(to: &mut Report, n: usize) {
         ("start, all held", h, Call::Start(false)),
         ("start, all free, against `LLFree::new`", h, Call::New(true)),
     ] {
-        to.add(Kind::Call, name, n, case(h, table(), &words, &[call], 0));
+        to.add(Kind::Call, name, n, warm(h, &words, vec![call]));
+        to.add(Kind::Call, &format!("{name}{COLD}"), n, Case { cold: true, ..warm(h, &words, vec![call]) });
     }
 }
 
 /// A batch of gets, and the puts that give the same frames back, on the words that such a round leaves.
-fn gets_and_puts(to: &mut Report, n: usize, named: bool, q: Ask) {
+fn gets_and_puts(to: &mut Cases, n: usize, named: bool, q: Ask) {
     let h = header(n);
     let batch = (h.frames >> q.order).min(16);
     let gets: Vec<Call> = (0..batch).map(|i| Call::Get(named.then_some(i << q.order), q)).collect();
@@ -76,11 +82,11 @@ fn gets_and_puts(to: &mut Report, n: usize, named: bool, q: Ask) {
     let (free, _) = after(h, table(), &words, &puts(&frames));
     let (held, frames) = after(h, table(), &free, &gets);
     let name = format!("order {}, {}, {}", q.order, if named { "named" } else { "unnamed" }, if q.local.is_some() { "local" } else { "no local" });
-    to.add(Kind::Call, &format!("get, {name}"), n, case(h, table(), &free, &gets, 0));
-    to.add(Kind::Call, &format!("put, {name}"), n, case(h, table(), &held, &puts(&frames), 0));
+    to.add(Kind::Call, &format!("get, {name}"), n, warm(h, &free, gets));
+    to.add(Kind::Call, &format!("put, {name}"), n, warm(h, &held, puts(&frames)));
 }
 
-pub fn run(to: &mut Report) {
+pub fn cases(to: &mut Cases) {
     for n in TREES {
         whole_state(to, n);
         for named in [false, true] {

@@ -14,19 +14,31 @@ mod worst;
 
 use std::fs::{read_to_string, write};
 
-use report::{Kind, Report};
+use report::{Cases, Kind, Report};
 
 /// All cases are timed so often, far apart, that a disturbance of some seconds does not count.
 const PASSES: usize = 3;
+/// So often at most the cases that are above a goal are timed again.
+const MORE: usize = 8;
+
+fn pass(r: &mut Report, cases: &Cases) {
+    parts::run(r);
+    cases.0.iter().for_each(|row| r.calls(row));
+}
 
 fn main() {
     let args: Vec<String> = std::env::args().skip(1).collect();
     let [facts, template, page, picture] = args.as_slice() else { panic!("bench FACTS TEMPLATE OUT.md OUT.svg") };
     let mut r = Report::default();
-    for _ in 0..PASSES {
-        parts::run(&mut r);
-        calls::run(&mut r);
-        worst::run(&mut r);
+    let mut cases = Cases::default();
+    calls::cases(&mut cases);
+    worst::cases(&mut cases);
+    (0..PASSES).for_each(|_| pass(&mut r, &cases));
+    r.above_alone = true;
+    for _ in 0..MORE {
+        if r.misses() {
+            pass(&mut r, &cases);
+        }
     }
     let stack = stack::run();
     let mut text = read_to_string(template).expect("the template");
@@ -35,7 +47,7 @@ fn main() {
         text = text.replace(&format!("{{{name}}}"), fact);
     }
     for (name, made) in [
-        ("{goals}", r.goals(&stack)),
+        ("{goals}", r.goals(&stack) + &r.reasons()),
         ("{calls}", r.table(Kind::Call)),
         ("{worst}", r.table(Kind::Worst)),
         ("{parts}", r.parts()),

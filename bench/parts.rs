@@ -3,7 +3,7 @@
 use std::hint::black_box;
 
 use crate::measure::both;
-use crate::report::{Kind, Report};
+use crate::report::Report;
 use crate::side::{Header, MATCH, table};
 
 unsafe extern "C" {
@@ -140,7 +140,7 @@ pub mod plain {
 /// The lower's get of order 0 from a row, its bit clear again.
 fn lower(to: &mut Report, name: &str, words: &[u64], row: usize) {
     let (mut a, mut b) = (words.to_vec(), words.to_vec());
-    let times = both(
+    let times = || both(
         || {
             let f = unsafe { bench_lower_get(a.as_mut_ptr(), a.len(), black_box(row)) };
             a[f / 64] &= !(1 << (f % 64));
@@ -152,12 +152,13 @@ fn lower(to: &mut Report, name: &str, words: &[u64], row: usize) {
             f
         },
     );
-    to.add(Kind::Part, name, 0, times);
+    to.part(name, times);
 }
 
+/// The acceptance test of a header and a table.
 fn accept(to: &mut Report, name: &str, h: Header, t: &[u32; 64]) {
-    let times = both(|| unsafe { bench_accepts(black_box(h), black_box(t.as_ptr())) as usize }, || plain::accepts(black_box(h), black_box(t)) as usize);
-    to.add(Kind::Part, name, 0, times);
+    let times = || both(|| unsafe { bench_accepts(black_box(h), black_box(t.as_ptr())) as usize }, || plain::accepts(black_box(h), black_box(t)) as usize);
+    to.part(name, times);
 }
 
 pub fn run(to: &mut Report) {
@@ -170,8 +171,8 @@ pub fn run(to: &mut Report) {
             r
         })
         .collect();
-    let times = both(|| unsafe { bench_clear(black_box(words.as_ptr()), words.len()) }, || plain::clear(black_box(&words)));
-    to.add(Kind::Part, "clear bits of 32,768 words", 0, times);
+    let times = || both(|| unsafe { bench_clear(black_box(words.as_ptr()), words.len()) }, || plain::clear(black_box(&words)));
+    to.part("clear bits of 32,768 words", times);
     lower(to, "lower get, order 0, hint at a free frame", &[0; 32 * 8], 100);
     let mut last = vec![!0u64; 32 * 8];
     last[127] = !0 >> 1;

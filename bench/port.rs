@@ -2,6 +2,7 @@
 
 use std::hint::black_box;
 
+use crate::measure::flush;
 use crate::side::{Ask, Figures, Header, Reply, Side, Table, Words};
 
 #[rustfmt::skip]
@@ -40,6 +41,11 @@ impl Side for Port {
     }
     fn words(&self) -> Words {
         self.w.clone()
+    }
+    fn flush(&self) {
+        flush(&self.w.trees);
+        flush(&self.w.locals);
+        flush(&self.w.bits);
     }
     fn start(&mut self, free: bool) -> usize {
         let (h, p, w) = (self.h, self.table.as_ptr(), &mut self.w);

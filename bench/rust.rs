@@ -7,6 +7,7 @@ use std::sync::atomic::{AtomicU32, Ordering::Relaxed};
 
 use llfree::{Alloc, Class, Classing, FrameId, Init, LLFree, MetaData, Policy};
 
+use crate::measure::flush;
 use crate::parts::plain;
 use crate::side::{Ask, Figures, Header, Reply, Side, Table, Words};
 
@@ -166,6 +167,12 @@ impl Side for Rust {
     fn words(&self) -> Words {
         let (trees, locals, bits) = self.all_words();
         Words { trees: trees.to_vec(), locals: locals.iter().step_by(8).copied().collect(), bits: bits.to_vec() }
+    }
+    fn flush(&self) {
+        let (trees, locals, bits) = self.all_words();
+        flush(trees);
+        flush(locals);
+        flush(bits);
     }
     /// Acceptance test and lengths, then plain fills for any F.
     fn start(&mut self, free: bool) -> usize {

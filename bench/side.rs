@@ -111,6 +111,8 @@ pub trait Side {
     fn new(h: Header, table: Table) -> Self;
     fn set(&mut self, words: &Words);
     fn words(&self) -> Words;
+    /// Takes the lent words out of all caches.
+    fn flush(&self);
     fn start(&mut self, free: bool) -> usize;
     /// A start by the source's own way, where the side has one.
     fn start_new(&mut self, free: bool) -> usize;

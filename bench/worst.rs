@@ -1,8 +1,8 @@
 //! The worst cases: memory full but for one frame, and 256 locals.
 
 use crate::calls::{after, header, started};
-use crate::measure::case;
-use crate::report::{Kind, Report};
+use crate::measure::Case;
+use crate::report::{Cases, Kind};
 use crate::side::{Ask, Call, Header, Words, table, table_of_eight};
 
 /// All held but the last frame of the tree that a walk from tree 0 comes to last.
@@ -13,7 +13,7 @@ pub fn one_frame(n: usize) -> (Header, Words) {
     (h, words)
 }
 
-fn full(to: &mut Report, n: usize) {
+fn full(to: &mut Cases, n: usize) {
     let (h, words) = one_frame(n);
     for (order, want, ends) in [(0, 0, "Done"), (3, 7, "Memory")] {
         // Class 1 matches the tree's class, class 0 demotes it, and so tries it from the list.
@@ -21,7 +21,7 @@ fn full(to: &mut Report, n: usize) {
             for local in [None, Some(0)] {
                 let name = format!("one frame free: get, order {order}, class {class}, {}, ends in {ends}", if local.is_some() { "local" } else { "no local" });
                 let get = Call::Get(None, Ask { order, class, local });
-                to.add(Kind::Worst, &name, n, case(h, table(), &words, &[get], want));
+                to.add(Kind::Worst, &name, n, Case { h, table: table(), words: words.clone(), calls: vec![get], want, cold: false });
             }
         }
     }
@@ -42,7 +42,7 @@ pub fn many_locals(n: usize, free: usize) -> (Header, Words) {
     (h, words)
 }
 
-fn locals(to: &mut Report, n: usize) {
+fn locals(to: &mut Cases, n: usize) {
     let (h, words) = many_locals(n, 2048);
     let ask = |class, local| Ask { order: 0, class, local };
     // Tree 0 is held by the first local of class 0: a named get of class 1 steals from it.
@@ -60,11 +60,12 @@ fn locals(to: &mut Report, n: usize) {
         ("get, order 0, unnamed, local, ends in Memory", &none_free, own, 7),
         ("get, order 0, unnamed, no local, ends in Memory", &none_free, any, 7),
     ] {
-        to.add(Kind::Worst, &format!("256 locals: {name}"), n, case(h, table_of_eight(), words, &[call], want));
+        let case = Case { h, table: table_of_eight(), words: words.clone(), calls: vec![call], want, cold: false };
+        to.add(Kind::Worst, &format!("256 locals: {name}"), n, case);
     }
 }
 
-pub fn run(to: &mut Report) {
+pub fn cases(to: &mut Cases) {
     for n in [8, 64, 200, 1024] {
         full(to, n);
     }

@@ -5,10 +5,30 @@
  * three buffers of words, and lends them at each call. Every call answers with a number on any header, table,
  * lengths, words and arguments: nothing has to be tested first. The whole state is tested at each call but a start.
  *
- * The caller's part: each pointer is valid for its length, aligned for its type and not null (also where the
- * length is 0), the buffers of one call do not overlap, and no other thread uses them during the call.
+ * The caller's part: each pointer is valid for its length, aligned for its type and not null (where the length is 0,
+ * as that of the locals where no class has any, the address of any word does), the buffers of one call do not
+ * overlap, and no other thread uses them during the call.
  *
  * Link with libffi.a (x86-64), which `rt staticlib ffi` makes. It asks for memcpy, memset, memmove and memcmp at most.
+ *
+ * A whole use (tests/link builds and runs it; tests/link.c has every call): 8 trees, one class with two locals.
+ *
+ *     #include "llfree.h"
+ *
+ *     int main(void) {
+ *         struct llfree_header h = {.frames = 16384, .default_class = 0, .places = {LLFREE_PLACE(2)}};
+ *         uint32_t table[64] = {[LLFREE_PAIR(0, 0)] = LLFREE_MATCH_PAIR(0, 0, 255)};
+ *         static uint32_t trees[8];
+ *         static uint64_t locals[2], bits[8 * 32];
+ *         size_t n = LLFREE_TREES(h.frames), k = llfree_locals(h), w = LLFREE_BITMAP_WORDS(h.frames);
+ *         if (llfree_start(h, table, trees, n, locals, k, bits, w, true) != LLFREE_DONE) return 1;
+ *         // 2^3 frames for class 0 with its local 0, wherever they are
+ *         struct llfree_reply got = llfree_get(h, table, trees, n, locals, k, bits, w, false, 0, 3, 0, true, 0);
+ *         if (got.number != LLFREE_DONE) return 1;
+ *         if (llfree_put(h, table, trees, n, locals, k, bits, w, got.frame, 3, 0, true, 0) != LLFREE_DONE) return 1;
+ *         if (llfree_drain(h, table, trees, n, locals, k, bits, w) != LLFREE_DONE) return 1;
+ *         return llfree_figures(h, table, trees, n, locals, k, bits, w, 8).free != 16384;
+ *     }
  */
 #ifndef LLFREE_H
 #define LLFREE_H
@@ -87,6 +107,11 @@ enum llfree_kind { LLFREE_INVALID = 0, LLFREE_STEAL = 1, LLFREE_DEMOTE = 2, LLFR
  */
 #define LLFREE_TREES(frames) (((size_t)(frames) + 2047) / 2048)
 #define LLFREE_BITMAP_WORDS(frames) (32 * LLFREE_TREES(frames))
+static inline size_t llfree_locals(struct llfree_header header) {
+    size_t sum = 0;
+    for (int i = 0; i < LLFREE_CLASSES; i++) sum += header.places[i] > 0 ? header.places[i] - 1u : 0u;
+    return sum;
+}
 
 /* What a get answers. A refused get names no frame and no class: both are 0. */
 struct llfree_reply {

@@ -26,7 +26,7 @@ static void begin(uint64_t frames, unsigned each, uint64_t def) {
     table[LLFREE_PAIR(0, 0)] = table[LLFREE_PAIR(1, 1)] = LLFREE_MATCH_PAIR(0, 0, 255);
     table[LLFREE_PAIR(0, 1)] = LLFREE_DEMOTE;
     table[LLFREE_PAIR(1, 0)] = LLFREE_STEAL;
-    n = LLFREE_TREES(frames), k = 2 * each, w = LLFREE_BITMAP_WORDS(frames);
+    n = LLFREE_TREES(frames), k = llfree_locals(header), w = LLFREE_BITMAP_WORDS(frames);
     memset(trees, 0xa5, sizeof trees);
     memset(locals, 0xa5, sizeof locals);
     memset(bits, 0xa5, sizeof bits);

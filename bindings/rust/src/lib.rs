@@ -2,9 +2,11 @@
 //! No dependencies. Nothing is tested here that the library tests itself: every call answers on any header, table,
 //! lengths, words and arguments.
 //!
-//! Build with the archive: `rustc --crate-type rlib src/lib.rs`, then link `-L .. -l static=ffi`.
+//! Build with Cargo: the archive is taken from target/staticlib, where `rt staticlib ffi` puts it, or from the folder
+//! that LLFREE_ARCHIVE names. Without Cargo, FOLDER being that of libffi.a:
+//! `rustc --edition 2024 -O --crate-type rlib --crate-name llfree -L FOLDER -l static=ffi src/lib.rs`.
 //!
-//! ```no_run
+//! ```
 //! use llfree::{Frames, Header, Pair, Table, Request};
 //! // two classes with two locals each; default 1; table: (0,0), (1,1) Match, (0,1) Demote, (1,0) Steal
 //! let header = Header::new(16_384, 1, [Some(2), Some(2), None, None, None, None, None, None]);
@@ -13,7 +15,7 @@
 //!     .with(1, 1, Pair::Match { cut: 0, low: 0, high: 255 })
 //!     .with(0, 1, Pair::Demote)
 //!     .with(1, 0, Pair::Steal);
-//! let (mut trees, mut locals, mut bits) = (vec![0; 8], vec![0; 4], vec![0; 256]);
+//! let (mut trees, mut locals, mut bits) = (vec![0; header.trees()], vec![0; header.locals()], vec![0; header.words()]);
 //! let mut frames = Frames { header, table: &table, trees: &mut trees, locals: &mut locals, bits: &mut bits };
 //! frames.start(true).unwrap();
 //! let got = frames.get(None, Request { order: 0, class: 0, local: Some(0) });
@@ -48,10 +50,12 @@ pub enum Refusal {
     Config = 10,
     /// Statistics: the lent tally rows are not eight.
     Rows = 11,
+    /// A number that this binding does not know: the archive is of a later version.
+    Unknown = 255,
 }
 
 impl Refusal {
-    /// The library answers 0 to 11 and no other number.
+    /// Of the library's number: 0 to 11.
     fn of(number: u64) -> Result<(), Refusal> {
         Err(match number {
             0 => return Ok(()),
@@ -65,7 +69,8 @@ impl Refusal {
             8 => Refusal::NotHeld,
             9 => Refusal::Stuck,
             10 => Refusal::Config,
-            _ => Refusal::Rows,
+            11 => Refusal::Rows,
+            _ => Refusal::Unknown,
         })
     }
 }
