@@ -1,4 +1,5 @@
 -- `search::search_and_reserve` meets its contract. Assumes nothing.
+use native.Mathlib.Omega.{arith}
 use Rattle.ways.specs.Search.{searchAndReserve}
 use borrow.Author.Needs.{needs}
 use Rattle.search.proofs.search_and_reserve.Statement.{statement}
@@ -14,13 +15,13 @@ search-from-requires : tie.Need-search-from-requires
 search-from-requires c κs = search needs
 
 same-length : tie.Need-same-length
-same-length c = search needs
+same-length c = omega (arith, c .before .before .before .before .before .before .search-from .kept)
 
 same-length-2 : tie.Need-same-length-2
-same-length-2 c = search needs
+same-length-2 c = omega (arith, c .before .before .before .before .before .before .search-from .kept)
 
 same-length-3 : tie.Need-same-length-3
-same-length-3 c = search needs
+same-length-3 c = omega (arith, c .before .before .before .before .before .before .search-from .kept)
 
 returns : tie.Need-returns
 unfolding searchAndReserve
@@ -30,7 +31,7 @@ returns c = (
     ← c .before .before .before .before .before .before .before .before .before .before .rounded-start .ensures .0,
     ← c .before .before .before .before .before .before .search-from .ensures .0,
   ),
-  search needs,
+  omega (arith, c .before .before .before .before .before .before .search-from .ensures .1),
 )
 
 pub search-and-reserve-spec : {M : Type 1} → statement M

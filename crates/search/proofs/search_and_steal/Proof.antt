@@ -1,4 +1,5 @@
 -- `search::search_and_steal` meets its contract. Assumes nothing.
+use native.Mathlib.Omega.{arith}
 use Rattle.ways.specs.Search.{searchAndSteal}
 use borrow.Author.Needs.{needs}
 use Rattle.search.proofs.search_and_steal.Statement.{statement}
@@ -11,13 +12,13 @@ search-best-requires : tie.Need-search-best-requires
 search-best-requires c κs = search needs
 
 same-length : tie.Need-same-length
-same-length c = search needs
+same-length c = omega (arith, c .before .before .before .before .before .before .search-best .kept)
 
 same-length-2 : tie.Need-same-length-2
-same-length-2 c = search needs
+same-length-2 c = omega (arith, c .before .before .before .before .before .before .search-best .kept)
 
 same-length-3 : tie.Need-same-length-3
-same-length-3 c = search needs
+same-length-3 c = omega (arith, c .before .before .before .before .before .before .search-best .kept)
 
 returns : tie.Need-returns
 unfolding searchAndSteal
@@ -26,7 +27,7 @@ returns c = (
     ← c .before .before .before .before .before .before .before .before .before .before .count .ensures .0,
     ← c .before .before .before .before .before .before .search-best .ensures .0,
   ),
-  (search needs, search needs),
+  omega (arith, c .before .before .before .before .before .before .search-best .ensures .1, c .before .before .before .before .before .before .before .before .before .before .count .ensures .1),
 )
 
 pub search-and-steal-spec : {M : Type 1} → statement M

@@ -1,4 +1,5 @@
 -- `search::search_from` meets its contract. Assumes nothing.
+use native.Mathlib.Omega.{arith}
 use Rattle.ends.specs.Ends.{else-ends, else-goes}
 use Rattle.rules.specs.Base.{ifte}
 use Rattle.ways.specs.Search.{searchFrom}
@@ -15,13 +16,13 @@ ends-requires : tie.Need-ends-requires
 ends-requires c κs = search needs
 
 same-length : tie.Need-same-length
-same-length c = search needs
+same-length c = omega (arith, c .before .before .before .before .before .before .before .before .search-near .kept)
 
 same-length-2 : tie.Need-same-length-2
-same-length-2 c = search needs
+same-length-2 c = omega (arith, c .before .before .before .before .before .before .before .before .search-near .kept)
 
 same-length-3 : tie.Need-same-length-3
-same-length-3 c = search needs
+same-length-3 c = omega (arith, c .before .before .before .before .before .before .before .before .search-near .kept)
 
 returns : tie.Need-returns
 unfolding searchFrom ifte
@@ -31,20 +32,20 @@ returns c = (
     ← c .before .before .before .before .before .before .before .before .search-near .ensures .0,
     else-ends _ _ _ (sym (c .before .ends .ensures) ∙ c .if2 .taken),
   ),
-  (search needs, search needs),
+  omega (arith, c .before .before .before .before .before .before .before .before .search-near .ensures .1),
 )
 
 search-far-requires : tie.Need-search-far-requires
 search-far-requires c κs = search needs
 
 same-length-4 : tie.Need-same-length-4
-same-length-4 c = search needs
+same-length-4 c = omega (arith, c .before .before .before .before .before .before .search-far .kept, c .before .before .before .before .before .before .before .before .before .before .before .before .before .before .before .before .before .before .search-near .kept)
 
 same-length-5 : tie.Need-same-length-5
-same-length-5 c = search needs
+same-length-5 c = omega (arith, c .before .before .before .before .before .before .search-far .kept, c .before .before .before .before .before .before .before .before .before .before .before .before .before .before .before .before .before .before .search-near .kept)
 
 same-length-6 : tie.Need-same-length-6
-same-length-6 c = search needs
+same-length-6 c = omega (arith, c .before .before .before .before .before .before .search-far .kept, c .before .before .before .before .before .before .before .before .before .before .before .before .before .before .before .before .before .before .search-near .kept)
 
 returns-2 : tie.Need-returns-2
 unfolding searchFrom ifte
@@ -55,20 +56,20 @@ returns-2 c = (
     else-goes _ _ _ (sym (c .before .before .before .before .before .before .before .before .before .before .before .ends .ensures) ∙ c .before .before .before .before .before .before .before .before .before .before .if2 .left),
     ← c .before .before .before .before .before .before .search-far .ensures .0,
   ),
-  (search needs, search needs),
+  omega (arith, c .before .before .before .before .before .before .search-far .ensures .1, c .before .before .before .before .before .before .before .before .before .before .before .before .before .before .before .before .before .before .search-near .ensures .1),
 )
 
 search-far-requires-2 : tie.Need-search-far-requires-2
 search-far-requires-2 c κs = search needs
 
 same-length-7 : tie.Need-same-length-7
-same-length-7 c = search needs
+same-length-7 c = omega (arith, c .before .before .before .before .before .before .search-far2 .kept)
 
 same-length-8 : tie.Need-same-length-8
-same-length-8 c = search needs
+same-length-8 c = omega (arith, c .before .before .before .before .before .before .search-far2 .kept)
 
 same-length-9 : tie.Need-same-length-9
-same-length-9 c = search needs
+same-length-9 c = omega (arith, c .before .before .before .before .before .before .search-far2 .kept)
 
 returns-3 : tie.Need-returns-3
 unfolding searchFrom ifte
@@ -77,7 +78,7 @@ returns-3 c = (
     le-ltb _ _ (c .before .before .before .before .before .before .before .before .before .before .if1 .left),
     ← c .before .before .before .before .before .before .search-far2 .ensures .0,
   ),
-  (search needs, search needs),
+  omega (arith, c .before .before .before .before .before .before .search-far2 .ensures .1),
 )
 
 pub search-from-spec : {M : Type 1} → statement M
