@@ -2,9 +2,9 @@
 //! No dependencies. Nothing is tested here that the library tests itself: every call answers on any header, table,
 //! lengths, words and arguments.
 //!
-//! Build with Cargo: the archive is taken from target/staticlib, where `rt staticlib ffi` puts it, or from the folder
-//! that LLFREE_ARCHIVE names. Without Cargo, FOLDER being that of libffi.a:
-//! `rustc --edition 2024 -O --crate-type rlib --crate-name llfree -L FOLDER -l static=ffi src/lib.rs`.
+//! Build with Cargo: the archive is taken from target/staticlib, where `rt staticlib llfree_c` puts it, or from the folder
+//! that LLFREE_ARCHIVE names. Without Cargo, FOLDER being that of libllfree_c.a:
+//! `rustc --edition 2024 -O --crate-type rlib --crate-name llfree -L FOLDER -l static=llfree_c src/lib.rs`.
 //!
 //! ```
 //! use llfree::{Frames, Header, Pair, Table, Request};

@@ -29,8 +29,8 @@ use Rattle.statistics.specs.Report.{reportOf}
 use Rattle.complete.specs.Complete.{refusalOf, number-back}
 use Rattle.sequence.specs.Demand.{Promised, Chain}
 use Rattle.sequence.specs.Sequence.{sequence, never-stuck}
-use Rattle.ffi.specs.declared.Figures.{Figures}
-use Rattle.ffi.specs.Figures.{figuresOf}
+use Rattle.llfree_c.specs.declared.Figures.{Figures}
+use Rattle.llfree_c.specs.Figures.{figuresOf}
 use Rattle.chains.specs.Chains.{Call, gets, puts, drains, counts, starts, Answered, Calls, outcomeFrom, grantedFrom, emptyRows, totalsFrom, rowsFrom, stepOf, steps, ArchiveSequence}
 
 -- ---- what a call tells: a number up to 11, and of a get that is refused no frame and no class

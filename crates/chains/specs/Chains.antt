@@ -20,9 +20,9 @@ use Rattle.tallies.specs.Rows.{rowList}
 use Rattle.complete.specs.Complete.{refusalOf}
 use Rattle.sequence.specs.Demand.{Step, NoRestart, NoneStuck, Demand3}
 use Rattle.sequence.specs.Demand as Demand
-use Rattle.ffi.specs.declared.Answer.{Answer}
-use Rattle.ffi.specs.declared.Figures.{Figures}
-use Rattle.ffi.specs.Promises.{StartNumber, GetAnswer, PutNumber, DrainNumber, FiguresAnswer}
+use Rattle.llfree_c.specs.declared.Answer.{Answer}
+use Rattle.llfree_c.specs.declared.Figures.{Figures}
+use Rattle.llfree_c.specs.Promises.{StartNumber, GetAnswer, PutNumber, DrainNumber, FiguresAnswer}
 
 -- ---- a chain of the archive's calls, each on the words as the call before left them
 

@@ -10,8 +10,8 @@ use Rattle.ways.specs.Calls.{Told, telling, fresh}
 use Rattle.ways.specs.Promises.{Words}
 use Rattle.complete.specs.Complete.{same-words}
 use Rattle.numbers.specs.declared.Answer.{Answer}
-use Rattle.ffi.specs.declared.Figures.{Figures}
-use Rattle.ffi.specs.Promises.{StartNumber, GetAnswer, PutNumber, DrainNumber, FiguresAnswer}
+use Rattle.llfree_c.specs.declared.Figures.{Figures}
+use Rattle.llfree_c.specs.Promises.{StartNumber, GetAnswer, PutNumber, DrainNumber, FiguresAnswer}
 
 -- a number and the words that it is told with
 told-once : (r q : ℕ) (e d : Words) → telling r 0 0 (fresh (e .trees) (e .locals) (e .bits)) ≡ telling q 0 0 (fresh (d .trees) (d .locals) (d .bits)) → (r ≡ q) × (e ≡ d)

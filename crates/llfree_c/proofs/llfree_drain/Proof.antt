@@ -1,7 +1,7 @@
--- `ffi::llfree_drain` meets its contract. Assumes nothing.
+-- `llfree_c::llfree_drain` meets its contract. Assumes nothing.
 use borrow.Author.Needs.{needs}
-use Rattle.ffi.proofs.llfree_drain.Statement.{statement}
-use Rattle.ffi.proofs.llfree_drain.Tie as tie
+use Rattle.llfree_c.proofs.llfree_drain.Statement.{statement}
+use Rattle.llfree_c.proofs.llfree_drain.Tie as tie
 
 drain-requires : tie.Need-drain-requires
 drain-requires c κs = search needs

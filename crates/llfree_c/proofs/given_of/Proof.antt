@@ -1,7 +1,7 @@
--- `ffi::given_of` meets its contract. Assumes nothing.
-use Rattle.ffi.specs.Args.{givenOf}
-use Rattle.ffi.proofs.given_of.Statement.{statement}
-use Rattle.ffi.proofs.given_of.Tie as tie
+-- `llfree_c::given_of` meets its contract. Assumes nothing.
+use Rattle.llfree_c.specs.Args.{givenOf}
+use Rattle.llfree_c.proofs.given_of.Statement.{statement}
+use Rattle.llfree_c.proofs.given_of.Tie as tie
 
 returns : tie.Need-returns
 unfolding givenOf

@@ -1,8 +1,8 @@
--- `bench_ffi::bench_clear` meets its contract. Assumes nothing.
+-- `bench_parts::bench_clear` meets its contract. Assumes nothing.
 use Prim.Native.Nat.{_-_}
 use borrow.Author.Needs.{needs}
-use Rattle.bench_ffi.proofs.bench_clear.Statement.{statement}
-use Rattle.bench_ffi.proofs.bench_clear.Tie as tie
+use Rattle.bench_parts.proofs.bench_clear.Statement.{statement}
+use Rattle.bench_parts.proofs.bench_clear.Tie as tie
 
 abbrev Inv-loop : tie.InvT-loop
 Inv-loop words n sum₀ t₀ sum t = Unit {0}

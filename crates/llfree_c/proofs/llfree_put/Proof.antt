@@ -1,7 +1,7 @@
--- `ffi::llfree_put` meets its contract. Assumes nothing.
+-- `llfree_c::llfree_put` meets its contract. Assumes nothing.
 use borrow.Author.Needs.{needs}
-use Rattle.ffi.proofs.llfree_put.Statement.{statement}
-use Rattle.ffi.proofs.llfree_put.Tie as tie
+use Rattle.llfree_c.proofs.llfree_put.Statement.{statement}
+use Rattle.llfree_c.proofs.llfree_put.Tie as tie
 
 ask-requires : tie.Need-ask-requires
 ask-requires c κs = search needs

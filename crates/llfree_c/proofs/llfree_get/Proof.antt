@@ -1,8 +1,8 @@
--- `ffi::llfree_get` meets its contract. Assumes nothing.
+-- `llfree_c::llfree_get` meets its contract. Assumes nothing.
 use mathlib.Core.Path.{_∙_}
 use borrow.Author.Needs.{needs}
-use Rattle.ffi.proofs.llfree_get.Statement.{statement}
-use Rattle.ffi.proofs.llfree_get.Tie as tie
+use Rattle.llfree_c.proofs.llfree_get.Statement.{statement}
+use Rattle.llfree_c.proofs.llfree_get.Tie as tie
 
 name-of-requires : tie.Need-name-of-requires
 name-of-requires c κs = search needs

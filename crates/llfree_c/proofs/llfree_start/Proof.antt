@@ -1,7 +1,7 @@
--- `ffi::llfree_start` meets its contract. Assumes nothing.
+-- `llfree_c::llfree_start` meets its contract. Assumes nothing.
 use borrow.Author.Needs.{needs}
-use Rattle.ffi.proofs.llfree_start.Statement.{statement}
-use Rattle.ffi.proofs.llfree_start.Tie as tie
+use Rattle.llfree_c.proofs.llfree_start.Statement.{statement}
+use Rattle.llfree_c.proofs.llfree_start.Tie as tie
 
 start-requires : tie.Need-start-requires
 start-requires c κs = search needs

@@ -7,8 +7,8 @@ use rules::Request;
 use tallies::Rows;
 ghost use mathlib.Core.Path.{_≡_};
 ghost use Rattle.ways.specs.Promises.{words};
-ghost use Rattle.ffi.specs.Args.{nameOf, givenOf, asking};
-ghost use Rattle.ffi.specs.Promises.{StartNumber, GetAnswer, PutNumber, DrainNumber, FiguresAnswer};
+ghost use Rattle.llfree_c.specs.Args.{nameOf, givenOf, asking};
+ghost use Rattle.llfree_c.specs.Promises.{StartNumber, GetAnswer, PutNumber, DrainNumber, FiguresAnswer};
 
 // What statistics answer: the number, total free, free trees, and the rows of the eight classes; zeros where it is refused.
 #[repr(C)]

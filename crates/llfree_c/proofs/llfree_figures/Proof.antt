@@ -1,7 +1,7 @@
--- `ffi::llfree_figures` meets its contract. Assumes nothing.
+-- `llfree_c::llfree_figures` meets its contract. Assumes nothing.
 use borrow.Author.Needs.{needs}
-use Rattle.ffi.proofs.llfree_figures.Statement.{statement}
-use Rattle.ffi.proofs.llfree_figures.Tie as tie
+use Rattle.llfree_c.proofs.llfree_figures.Statement.{statement}
+use Rattle.llfree_c.proofs.llfree_figures.Tie as tie
 
 tell-requires : tie.Need-tell-requires
 tell-requires c κs = search needs

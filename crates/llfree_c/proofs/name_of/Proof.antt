@@ -1,7 +1,7 @@
--- `ffi::name_of` meets its contract. Assumes nothing.
-use Rattle.ffi.specs.Args.{nameOf}
-use Rattle.ffi.proofs.name_of.Statement.{statement}
-use Rattle.ffi.proofs.name_of.Tie as tie
+-- `llfree_c::name_of` meets its contract. Assumes nothing.
+use Rattle.llfree_c.specs.Args.{nameOf}
+use Rattle.llfree_c.proofs.name_of.Statement.{statement}
+use Rattle.llfree_c.proofs.name_of.Tie as tie
 
 returns : tie.Need-returns
 unfolding nameOf
