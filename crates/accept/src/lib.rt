@@ -4,22 +4,15 @@ ghost use mathlib.Core.Path.{_≡_};
 ghost use Prim.Native.Nat.{_*_, _+_, _<_};
 ghost use Rattle.rules.specs.Base.{allBelow};
 ghost use Rattle.rules.specs.Words.{config, configured};
-ghost use Rattle.rules.specs.Policy.{pairOf, kindAt, pairFormed, accepted};
+ghost use Rattle.rules.specs.Policy.{pairOf, pairFormed, accepted};
 ghost use Rattle.policy_laws.specs.Rows.{placeFits, pairCovered, covers, leadsBack, demoteCovers, cellAccepted, rowEmpty, rowAccepted};
-
-// A byte as a number.
-fn wide(x: u8) -> usize
-    ensures { λ r. ⌜ r ≡ x ⌝ }
-{
-    x as usize
-}
 
 // The class has a place.
 pub fn is_configured(places: &[u8; 8], k: usize) -> bool
     requires { ⌜ k < 8 ⌝ }
     ensures { λ r. ⌜ r ≡ configured (now (places .entry)) k ⌝ }
 {
-    0 < wide(places[k])
+    0 < words::wide(places[k])
 }
 
 // No class has more than 32 locals.
@@ -28,7 +21,7 @@ fn places_fit(h: Header) -> bool
 {
     let mut k: usize = 0;
     while k < 8 {
-        if 33 < wide(h.places[k]) {
+        if 33 < words::wide(h.places[k]) {
             return false;
         }
         k += 1;
@@ -42,14 +35,6 @@ fn pair_at(h: Header, table: &[u32; 64], o: usize, e: usize) -> u32
     ensures { λ r. ⌜ r ≡ pairOf (config h (now (table .entry))) o e ⌝ }
 {
     table[o * 8 + e]
-}
-
-// The kind of the pair (o, e).
-fn kind_at(h: Header, table: &[u32; 64], o: usize, e: usize) -> u32
-    requires { ⌜ (o < 8) × (e < 8) ⌝ }
-    ensures { λ r. ⌜ r ≡ kindAt (config h (now (table .entry))) o e ⌝ }
-{
-    pair_at(h, table, o, e) % 4
 }
 
 // A pair's word has its kind's form.
@@ -67,8 +52,8 @@ fn pair_covered(h: Header, table: &[u32; 64], o: usize, e: usize, f: usize) -> b
     requires { ⌜ (o < 8) × ((e < 8) × (f < 8)) ⌝ }
     ensures { λ r. ⌜ r ≡ pairCovered (config h (now (table .entry))) o e f ⌝ }
 {
-    if 2 <= kind_at(h, table, e, f) {
-        return 2 <= kind_at(h, table, o, f);
+    if 2 <= words::kind_at(h, table, e, f) {
+        return 2 <= words::kind_at(h, table, o, f);
     }
     true
 }
@@ -93,9 +78,9 @@ fn leads_back(h: Header, table: &[u32; 64], o: usize, e: usize) -> bool
     requires { ⌜ (h .default < 8) × ((o < 8) × (e < 8)) ⌝ }
     ensures { λ r. ⌜ r ≡ leadsBack (config h (now (table .entry))) o e ⌝ }
 {
-    if 2 <= kind_at(h, table, o, e) {
-        if 0 < kind_at(h, table, e, h.default) {
-            return 2 <= kind_at(h, table, o, h.default);
+    if 2 <= words::kind_at(h, table, o, e) {
+        if 0 < words::kind_at(h, table, e, h.default) {
+            return 2 <= words::kind_at(h, table, o, h.default);
         }
         return true;
     }
@@ -107,7 +92,7 @@ fn demote_covers(h: Header, table: &[u32; 64], o: usize, e: usize) -> bool
     requires { ⌜ (o < 8) × (e < 8) ⌝ }
     ensures { λ r. ⌜ r ≡ demoteCovers (config h (now (table .entry))) o e ⌝ }
 {
-    if kind_at(h, table, o, e) == 2 {
+    if words::kind_at(h, table, o, e) == 2 {
         return covers(h, table, o, e);
     }
     true
@@ -165,7 +150,7 @@ fn row_accepted(h: Header, places: &[u8; 8], table: &[u32; 64], o: usize) -> boo
     ensures { λ r. ⌜ r ≡ rowAccepted (config h (now (table .entry))) o ⌝ }
 {
     if is_configured(places, o) {
-        if 2 <= kind_at(h, table, o, o) {
+        if 2 <= words::kind_at(h, table, o, o) {
             return cells_accepted(h, places, table, o);
         }
         return false;

@@ -117,19 +117,12 @@ fn local_stands(
     local::word(locals, j) == 0
 }
 
-// A byte as a number.
-fn wide(x: u8) -> usize
-    ensures { λ r. ⌜ (r ≡ x) × (r < 256) ⌝ }
-{
-    x as usize
-}
-
 // The number of locals of a class.
 fn locals_in(places: &[u8; 8], class: usize) -> usize
     requires { ⌜ class < 8 ⌝ }
     ensures { λ r. ⌜ (r ≡ localsOf (now (places .entry)) class) × (r < 256) ⌝ }
 {
-    let place = wide(places[class]);
+    let place = words::wide(places[class]);
     if 0 < place { place - 1 } else { 0 }
 }
 

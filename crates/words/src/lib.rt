@@ -93,7 +93,7 @@ pub fn local_word(l: Local) -> u64
 }
 
 // A byte as a number.
-fn wide(x: u8) -> usize
+pub fn wide(x: u8) -> usize
     ensures { λ r. ⌜ (r ≡ x) × (r < 256) ⌝ }
 {
     x as usize

@@ -13,7 +13,7 @@ wide-requires c κs = search needs
 returns : tie.Need-returns
 unfolding configured
 returns c =
-    rw (← c .wide .ensures)
+    rw (← c .wide .ensures .0)
 
 pub is-configured-spec : {M : Type 1} → statement M
 is-configured-spec = tie.close (tie.spec element-copy-out-wide wide-requires returns)

@@ -26,7 +26,7 @@ wide-requires : tie.Need-wide-requires Inv-loop μ-loop
 wide-requires c κs = search needs
 
 returns : tie.Need-returns Inv-loop μ-loop
-returns c = sym (all-fails 8 _ (c .before .before .before .before .loop .k) (c .before .before .before .loop-test .taken) (rw (← c .before .wide .ensures) (lt-leb _ _ (c .if1 .taken))))
+returns c = sym (all-fails 8 _ (c .before .before .before .before .loop .k) (c .before .before .before .loop-test .taken) (rw (← c .before .wide .ensures .0) (lt-leb _ _ (c .if1 .taken))))
 
 add-k : tie.Need-add-k Inv-loop μ-loop
 add-k c = search needs
@@ -35,7 +35,7 @@ loop-less : tie.Need-loop-less Inv-loop μ-loop
 loop-less c = search needs
 
 loop-again : tie.Need-loop-again Inv-loop μ-loop
-loop-again c = (search needs, all-more _ _ (c .before .before .before .before .loop .inv .1) (rw (← c .before .wide .ensures) (le-leb _ _ (c .if1 .left))))
+loop-again c = (search needs, all-more _ _ (c .before .before .before .before .loop .inv .1) (rw (← c .before .wide .ensures .0) (le-leb _ _ (c .if1 .left))))
 
 returns-2 : tie.Need-returns-2 Inv-loop μ-loop
 returns-2 c = sym (all-done 8 (c .before .loop .k) _ (c .before .loop .inv .0) (c .loop-test .left) (c .before .loop .inv .1))
