@@ -32,13 +32,18 @@ fn seek_word(w: u64, order: usize, want: usize, index: usize) -> usize
     seek_word(w, order - 1, want, right)
 }
 
-// The first wholly free block of the order `want` in a word; 64 where there is none. One frame is the lowest clear bit.
+// The first wholly free block of the order `want` in a word; 64 where there is none. None before the lowest clear bit is free, so the block that holds it is tried first.
 fn first_block(w: u64, want: usize) -> usize
     requires { ⌜ want < 6 ⌝ }
     ensures { λ r. ⌜ r ≡ wordSeek w 6 want 0 ⌝ }
 {
-    if want == 0 {
-        return bits::first_clear(w);
+    let bit = bits::first_clear(w);
+    if bit < 64 {
+        let block = bit >> want;
+        if bits::word_free(w, want, block) {
+            return block;
+        }
+        return seek_word(w, 6, want, 0);
     }
     seek_word(w, 6, want, 0)
 }

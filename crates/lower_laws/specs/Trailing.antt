@@ -1,20 +1,17 @@
--- The lowest clear bit of a word: as far up as what is left of all ones less the word has zeros at its low end. Assumes nothing.
+-- The lowest clear bit of a word, as many zeros as all ones less the word has at its low end; and the first free block of a word, where it holds that bit. Assumes nothing.
 use mathlib.Core.Path.{_≡_, refl, sym, ap, _∙_}
-use mathlib.Core.Logic.{⊎-elim}
 use mathlib.Core.Bool.{true, false}
 use Prim.Native.Nat.{ℕ, zero, suc, zero-le, _+_, _-_, _*_, _/_, _%_, _^_, _<_, _≤_}
-use native.Mathlib.Nat.{pow-suc, div-one}
+use native.Mathlib.Nat.{pow-suc, suc-mul, zero-mul, div-one, div-mul-le-self, div-lt-iff-lt-mul, mul-le-mul-right}
 use native.Mathlib.Omega.{arith}
 use lib.Dec.{eqb, leb}
 use lib.Count.{trailingZeros, under, trailing-le}
-use lib.Pow.{shr-shr}
-use borrow.Author.Tests.{eq-eqb, le-leb}
-use Rattle.rules.specs.Base.{firstIn}
-use Rattle.rules.specs.Lower.{hit}
-use Rattle.rules.specs.declared.Found.the-variants.{At, Nothing}
+use lib.Pow.{shr-shr, pow-pos, mod-mod-pow}
+use borrow.Author.Tests.{ne-eqb, le-leb}
+use Rattle.rules.specs.Lower.{heldIn, hit}
 use Rattle.lower_laws.specs.Block.{Block}
-use Rattle.lower_laws.specs.First.{first-none, first-at}
-use Rattle.lower_laws.specs.Cases.{below-or}
+use Rattle.lower_laws.specs.First.{first-at}
+use Rattle.lower_laws.specs.Power.{pow-part}
 use Rattle.lower_laws.specs.Seek.{seekIn}
 use Rattle.lower_laws.specs.Word.{word, foundOr, wordSeek, word-free}
 
@@ -59,41 +56,53 @@ lowest (suc k) w h =
     bit zero e g = rw e (first-clear (suc k) w e)
     bit (suc b) e g = let o : w % 2 ≡ 1 = omega (arith, e) in rw o (further k w _ o g)
 
-module _ (w : ℕ) (fits : w < 2 ^ 64) where
+module _ (w : ℕ) (fits : w < 2 ^ 64) (v : ℕ) (small : v < 6) where
   abbrev t : ℕ
   t = lowestClear 64 w
-
-  facts : Lowest 64 w t
-  facts = lowest 64 w fits
-
-  -- a frame of a word is free exactly if its bit is clear
-  free-bit : (i : ℕ) → i < 64 → hit (word w) 0 0 i ≡ eqb (w / 2 ^ i % 2) 0
-  free-bit i l =
-      let b : Block (word w) 0 i = record { order = omega arith; inside = omega arith; small = omega arith } in
-      let e : i * 1 ≡ i = omega arith in
-      let z : leb 0 i ≡ true = le-leb 0 i zero-le in
-      rw z (sym (rw e at (word-free w 0 i 1 refl b (w / 2 ^ (i * 1) % 2 ^ 1) refl (omega arith))))
-
-  set-held : (i : ℕ) → i < 64 → w / 2 ^ i % 2 ≡ 1 → hit (word w) 0 0 i ≡ false
-  set-held i l e = free-bit i l ∙ ap (λ (x : ℕ). eqb x 0) e
 
   within : t ≤ 64
   unfolding lowestClear
   within = trailing-le 64 _
 
-  found : t < 64 → firstIn (hit (word w) 0 0) 0 64 ≡ At t
-  found l = first-at (hit (word w) 0 0) 0 64 t (omega arith) l
-      (λ i _ m. set-held i (omega arith) (facts .below i m))
-      (free-bit t l ∙ eq-eqb _ _ (facts .at l))
+  -- the first bit of what is left of a word, where all below the lowest clear bit is set
+  set-first : (s n : ℕ) → 0 < n → s < t → w / 2 ^ s % 2 ^ n % 2 ≡ 1
+  set-first s n p l =
+      let q : n - 1 + 1 ≡ n = omega (arith, p) in
+      (rw q at (mod-mod-pow (w / 2 ^ s) (n - 1) 1)) ∙ lowest 64 w fits .below s l
 
-  none : t ≡ 64 → firstIn (hit (word w) 0 0) 0 64 ≡ Nothing
-  none e = first-none (hit (word w) 0 0) 0 64
-      (λ i _ m. set-held i m (facts .below i (omega (arith, e, m))))
+  -- a block below the lowest clear bit is not free
+  block-held : (i : ℕ) → i * 2 ^ v + 2 ^ v ≤ t → hit (word w) v 0 i ≡ false
+  block-held i l =
+      let p : 0 < 2 ^ v = pow-pos v in
+      let b : Block (word w) v i = record { order = omega (arith, small); inside = omega (arith, l, within); small = omega arith } in
+      let r : ℕ = w / 2 ^ (i * 2 ^ v) % 2 ^ (2 ^ v) in
+      let o : r % 2 ≡ 1 = set-first (i * 2 ^ v) (2 ^ v) p (omega (arith, l, p)) in
+      let z : leb 0 i ≡ true = le-leb 0 i zero-le in
+      rw z (sym (word-free w v i (2 ^ v) refl b r refl small) ∙ ne-eqb r 0 (λ e. (let y : 0 % 2 ≡ 1 = rw e at o in omega arith)))
 
-  -- the search for one frame in a word is the lowest clear bit
-  pub clear-seek : lowestClear 64 w ≡ wordSeek w 6 0 0
-  unfolding wordSeek seekIn
-  clear-seek = ⊎-elim
-      (λ l. sym (ap (foundOr 64) (found l)))
-      (λ g. (let e : t ≡ 64 = omega (arith, within, g) in e ∙ sym (ap (foundOr 64) (none e))))
-      (below-or t 64)
+  -- the block that holds it
+  module _ (l : t < 64) (b : ℕ) (e : b ≡ t / 2 ^ v) where
+    word-has : b < 2 ^ (6 - v)
+    word-has =
+        let c : 2 ^ 6 ≡ 2 ^ (6 - v) * 2 ^ v = pow-part 6 v (omega (arith, small)) in
+        rw e (div-lt-iff-lt-mul (pow-pos v) .1 (omega (arith, l, c)))
+
+    pub clear-block : Block (word w) v b
+    clear-block =
+        let c : 2 ^ 6 ≡ 2 ^ (6 - v) * 2 ^ v = pow-part 6 v (omega (arith, small)) in
+        record {
+          order = omega (arith, small);
+          inside = omega (arith, c, suc-mul b (2 ^ v), mul-le-mul-right {m = suc b} {n = 2 ^ (6 - v)} (2 ^ v) word-has);
+          small = omega arith;
+        }
+
+    -- if it is free, it is the first that is
+    pub clear-first : eqb (heldIn (word w) v b) 0 ≡ true → b ≡ wordSeek w 6 v 0
+    unfolding wordSeek seekIn
+    clear-first f =
+        let a : 0 * 2 ^ (6 - v) ≡ 0 = zero-mul _ in
+        let d : b * 2 ^ v ≤ t = rw e (div-mul-le-self t (2 ^ v)) in
+        let z : leb 0 b ≡ true = le-leb 0 b zero-le in
+        sym (ap (foundOr 64) (first-at (hit (word w) v 0) (0 * 2 ^ (6 - v)) (2 ^ (6 - v)) b (omega (arith, a)) (omega (arith, a, word-has))
+        (λ i _ m. block-held i (omega (arith, d, suc-mul i (2 ^ v), mul-le-mul-right {m = suc i} {n = b} (2 ^ v) m)))
+        (rw z f)))
