@@ -109,12 +109,6 @@ fn short_drain(
     }
 }
 
-// A put of the frame 1, which is free.
-fn free_put(h: Header, table: &[u32; 64], trees: &mut [u32], locals: &mut [u64], bits: &mut [u64]) {
-    let put = llfree::put(h, table, trees, locals, bits, 1, request(8));
-    says::outcome(b"put of frame 1, which is free", put);
-}
-
 // The header with the other class as default: its table is not accepted.
 fn other(h: Header) -> Header {
     let places = h.places;
@@ -123,18 +117,6 @@ fn other(h: Header) -> Header {
         default: 0,
         places: places,
     }
-}
-
-// A start with that header.
-fn other_start(
-    h: Header,
-    table: &[u32; 64],
-    trees: &mut [u32],
-    locals: &mut [u64],
-    bits: &mut [u64],
-) {
-    let started = llfree::start(other(h), table, trees, locals, bits, true);
-    says::outcome(b"start with default 0", started);
 }
 
 // Statistics with a row too few.
@@ -151,26 +133,21 @@ fn seven_rows<'a>(
     says::outcome(b"statistics with seven rows", outcome);
 }
 
-// A store of which frame 0 alone is held.
-fn begin(h: Header, table: &[u32; 64], trees: &mut [u32], locals: &mut [u64], bits: &mut [u64]) {
+// Each refusal in turn, on a store of which frame 0 alone is held; no call is refused with 9.
+pub fn show(h: Header, table: &[u32; 64], trees: &mut [u32], locals: &mut [u64], bits: &mut [u64]) {
     says::say(b"\nWhat the loader does on each refusal\n");
     let started = llfree::start(h, table, trees, locals, bits, true);
     says::outcome(b"start", started);
-    says::answered(b"get of frame 0", get(h, table, trees, locals, bits, 7));
-}
-
-// The refusals from 8 on; no call is refused with 9.
-fn later(h: Header, table: &[u32; 64], trees: &mut [u32], locals: &mut [u64], bits: &mut [u64]) {
-    free_put(h, table, trees, locals, bits);
-    says::answered(b"no call", 9);
-    other_start(h, table, trees, locals, bits);
-    seven_rows(h, table, trees, locals, bits);
-}
-
-// Each refusal in turn.
-pub fn show(h: Header, table: &[u32; 64], trees: &mut [u32], locals: &mut [u64], bits: &mut [u64]) {
-    begin(h, table, trees, locals, bits);
+    let held = get(h, table, trees, locals, bits, 7);
+    says::answered(b"get of frame 0", held);
     short_drain(h, table, trees, locals, bits);
     gets(h, table, trees, locals, bits);
-    later(h, table, trees, locals, bits);
+    let q = request(8);
+    let put = llfree::put(h, table, trees, locals, bits, 1, q);
+    says::outcome(b"put of frame 1, which is free", put);
+    says::answered(b"no call", 9);
+    let wrong = other(h);
+    let refused = llfree::start(wrong, table, trees, locals, bits, true);
+    says::outcome(b"start with default 0", refused);
+    seven_rows(h, table, trees, locals, bits);
 }
