@@ -8,6 +8,7 @@ use ways::Granted;
 use ways::Outcome;
 ghost use mathlib.Core.Path.{_≡_};
 ghost use mathlib.Core.Bool.{true};
+ghost use Prim.Native.Nat.{_<_};
 ghost use Rattle.rules.specs.Words.{config};
 ghost use Rattle.ways.specs.Calls.{outcomeOf};
 ghost use Rattle.patterns.specs.Board.{Ready};
@@ -19,6 +20,34 @@ struct Held {
     whole: bool,
     frames: usize,
     first: [usize; 12],
+}
+
+// A block taken, by its first frame.
+enum Block {
+    At(usize),
+    Refused,
+}
+
+// Takes a pattern's block of an order.
+fn take_block(
+    h: Header,
+    table: &[u32; 64],
+    trees: &mut [u32],
+    locals: &mut [u64],
+    bits: &mut [u64],
+    p: Pattern,
+    order: usize,
+) -> Block
+    requires { ⌜ order < 12 ⌝ }
+{
+    let q = patterns::request(p, order);
+    let reply = llfree::get(h, table, trees, locals, bits, Name::Any, q);
+    says::got(p, order, reply);
+    let granted = reply.granted;
+    match granted {
+        Granted::Done { frame, class: _ } => Block::At(frame),
+        Granted::Refused(_) => Block::Refused,
+    }
 }
 
 // Takes a pattern's blocks, the largest first, up to the first refusal.
@@ -41,11 +70,8 @@ fn take(
         if !patterns::has_block(wanted, order) {
             continue;
         }
-        let q = patterns::request(p, order);
-        let reply = llfree::get(h, table, trees, locals, bits, Name::Any, q);
-        says::got(p, order, reply);
-        let granted = reply.granted;
-        let Granted::Done { frame, class: _ } = granted else {
+        let block = take_block(h, table, trees, locals, bits, p, order);
+        let Block::At(frame) = block else {
             return Held {
                 whole: false,
                 frames: frames,
@@ -62,7 +88,25 @@ fn take(
     }
 }
 
-// Gives back the blocks that are held of a pattern, each with the order, class and local that it was taken with.
+// Gives back a pattern's block of an order, with the class and local that it was taken with.
+fn give_block(
+    h: Header,
+    table: &[u32; 64],
+    trees: &mut [u32],
+    locals: &mut [u64],
+    bits: &mut [u64],
+    p: Pattern,
+    order: usize,
+    frame: usize,
+)
+    requires { ⌜ order < 12 ⌝ }
+{
+    let q = patterns::request(p, order);
+    let outcome = llfree::put(h, table, trees, locals, bits, frame, q);
+    says::gave(p, order, outcome);
+}
+
+// Gives back the blocks that are held of a pattern.
 fn give(
     h: Header,
     table: &[u32; 64],
@@ -80,9 +124,7 @@ fn give(
         if !patterns::has_block(frames, order) {
             continue;
         }
-        let q = patterns::request(p, order);
-        let outcome = llfree::put(h, table, trees, locals, bits, first[order], q);
-        says::gave(p, order, outcome);
+        give_block(h, table, trees, locals, bits, p, order, first[order]);
     }
 }
 
@@ -159,6 +201,24 @@ fn give_all(
     );
 }
 
+// The figures of the store.
+fn figures<'a>(
+    h: Header,
+    table: &'a [u32; 64],
+    trees: &'a [u32],
+    locals: &'a [u64],
+    bits: &'a [u64],
+) {
+    let report = statistics::tell(h, table, trees, locals, bits, 8);
+    says::figures(h.frames, report);
+}
+
+// Drains: the reservations go back to their trees.
+fn drain(h: Header, table: &[u32; 64], trees: &mut [u32], locals: &mut [u64], bits: &mut [u64]) {
+    let drained = llfree::drain(h, table, trees, locals, bits);
+    says::outcome(b"drain", drained);
+}
+
 // Gives the patterns back and drains: all frames are free again.
 fn finish(
     h: Header,
@@ -169,15 +229,14 @@ fn finish(
     shown: Shown,
 ) {
     give_all(h, table, trees, locals, bits, shown);
-    let drained = llfree::drain(h, table, trees, locals, bits);
-    says::outcome(b"drain", drained);
-    says::figures(h, statistics::tell(h, table, trees, locals, bits, 8));
+    drain(h, table, trees, locals, bits);
+    figures(h, table, trees, locals, bits);
 }
 
 // The calls after an accepted start.
 fn serve(h: Header, table: &[u32; 64], trees: &mut [u32], locals: &mut [u64], bits: &mut [u64]) {
     let shown = show_all(h, table, trees, locals, bits);
-    says::figures(h, statistics::tell(h, table, trees, locals, bits, 8));
+    figures(h, table, trees, locals, bits);
     finish(h, table, trees, locals, bits, shown);
 }
 
@@ -199,7 +258,7 @@ fn start(
 fn boot(h: Header, table: &[u32; 64], trees: &mut [u32], locals: &mut [u64], bits: &mut [u64])
     requires { ⌜ Ready (config h (now table)) (now trees) (now locals) (now bits) ⌝ }
 {
-    says::board(h);
+    says::board(h.frames);
     let started = start(h, table, trees, locals, bits);
     says::outcome(b"start", started);
     match started {

@@ -1,8 +1,31 @@
 // What lines that only look answer: the words lent as lines, their sums, and the picture.
 use commands::Show;
+use rules::Header;
 use stores::Held;
 
 mod look;
+
+// The answer to a line that looks, at these words. The picture is written at once, behind the answers before it.
+fn show_these<'a>(
+    h: Header,
+    table: &'a [u32; 64],
+    trees: &'a [u32],
+    locals: &'a [u64],
+    bits: &'a [u64],
+    s: Show,
+    out: &mut [u8],
+    at: usize,
+) -> usize {
+    match s {
+        Show::Dump => dumps::dump(trees, locals, bits, out, at),
+        Show::Sum => dumps::sum(trees, locals, bits, out, at),
+        Show::Look => {
+            inputs::flush(out, at);
+            look::look(h, table, trees, locals, bits);
+            0
+        }
+    }
+}
 
 // The answer to a line that looks, at the words lent.
 pub fn show<'a>(
@@ -18,17 +41,14 @@ pub fn show<'a>(
     let t = stores::lent_trees(held, trees.len());
     let l = stores::lent_locals(held, locals.len());
     let b = stores::lent_bits(held, bits.len());
-    match s {
-        Show::Dump => dumps::dump(&trees[0..t], &locals[0..l], &bits[0..b], out, at),
-        Show::Sum => dumps::sum(&trees[0..t], &locals[0..l], &bits[0..b], out, at),
-        Show::Look => look::look(
-            held.h,
-            table,
-            &trees[0..t],
-            &locals[0..l],
-            &bits[0..b],
-            out,
-            at,
-        ),
-    }
+    show_these(
+        held.h,
+        table,
+        &trees[0..t],
+        &locals[0..l],
+        &bits[0..b],
+        s,
+        out,
+        at,
+    )
 }

@@ -2,7 +2,19 @@
 use rules::Header;
 use rules::Local;
 use rules::Tree;
+use ways::Totals;
 ghost use Prim.Native.Nat.{_+_, _<_};
+
+// Writes a text.
+fn say(text: &[u8]) {
+    prints::text(b"runner", text);
+}
+
+// Writes a text and a number.
+fn count(text: &[u8], n: usize) {
+    say(text);
+    prints::number(b"runner", n);
+}
 
 // How full a tree is: `.` all free, 1 to 9 tenths held, `#` all held, `!` more free than a tree has.
 fn fill_sign(free: usize) -> u8 {
@@ -35,137 +47,136 @@ fn reserved_sign(reserved: bool) -> u8 {
 }
 
 // A tree's cell: a space, its fill, its class, and a star if it is reserved.
-fn cell(t: Tree, out: &mut [u8], at: usize) -> usize {
-    let to = texts::put_byte(out, at, b' ');
-    let to = texts::put_byte(out, to, fill_sign(t.free));
-    let to = texts::put_byte(out, to, digit(t.class));
-    texts::put_byte(out, to, reserved_sign(t.reserved))
+fn cell(t: Tree) {
+    let signs = [
+        b' ',
+        fill_sign(t.free),
+        digit(t.class),
+        reserved_sign(t.reserved),
+    ];
+    say(&signs);
+}
+
+// Writes the first `to` bytes of a text.
+fn say_part(text: &[u8], to: usize) {
+    if to <= text.len() {
+        say(&text[0..to]);
+    }
+}
+
+// A new line of the map, and its first tree's number in three places.
+fn margin(i: usize) {
+    let mut text = [0u8; 20];
+    let to = texts::put_padded(&mut text, 0, i as u64, 3);
+    say(b"\n  ");
+    say_part(&text, to);
 }
 
 // What stands before a tree's cell: at each twentieth a new line and its number.
-fn before(i: usize, out: &mut [u8], at: usize) -> usize {
-    if i % 4 == 0 {
-        if fifth(i / 4) {
-            let to = texts::append(out, at, b"\n  ");
-            return texts::put_padded(out, to, i as u64, 3);
-        }
+fn before(i: usize) {
+    if i % 20 == 0 {
+        margin(i);
     }
-    at
-}
-
-// Whether a number is a multiple of five.
-fn fifth(n: usize) -> bool {
-    n % 5 == 0
 }
 
 // The map of the trees.
-fn map(trees: &[u32], out: &mut [u8], at: usize) -> usize {
-    let mut to = at;
+fn map(trees: &[u32]) {
     let mut i = 0;
     while i < trees.len() {
-        to = before(i, out, to);
-        to = cell(words::tree_of(trees[i]), out, to);
+        before(i);
+        cell(words::tree_of(trees[i]));
         i += 1;
     }
-    texts::put_byte(out, to, b'\n')
 }
 
-// A present local: its place, its tree and its free.
-fn present(i: usize, l: Local, out: &mut [u8], at: usize) -> usize {
-    let to = texts::put_number(out, at, b"  local ", i as u64);
-    let to = texts::put_number(out, to, b": tree ", (l.row / 32) as u64);
-    let to = texts::put_number(out, to, b", row ", l.row as u64);
-    let to = texts::put_number(out, to, b", free ", l.free as u64);
-    texts::put_byte(out, to, b'\n')
-}
-
-// A local, if it is present.
-fn one_local(i: usize, l: Local, out: &mut [u8], at: usize) -> usize {
+// A local, if it is present: its place, its tree and its free.
+fn one_local(i: usize, l: Local) {
     if l.present {
-        return present(i, l, out, at);
+        count(b"  local ", i);
+        count(b": tree ", l.row / 32);
+        count(b", row ", l.row);
+        count(b", free ", l.free);
+        say(b"\n");
     }
-    at
 }
 
 // The present locals.
-fn local_lines(locals: &[u64], out: &mut [u8], at: usize) -> usize {
-    let mut to = at;
+fn local_lines(locals: &[u64]) {
     let mut i = 0;
     while i < locals.len() {
-        to = one_local(i, words::local_of(locals[i]), out, to);
+        one_local(i, words::local_of(locals[i]));
         i += 1;
     }
-    to
 }
 
-// A class: its locals, and the places of their words.
-fn class_line(h: Header, class: usize, out: &mut [u8], at: usize) -> usize
+// A class, if it is configured: its locals, and the place of the first of their words.
+fn class_line(h: Header, class: usize)
     requires { ⌜ class < 8 ⌝ }
 {
     if words::is_configured(h, class) {
-        let to = texts::put_number(out, at, b"  class ", class as u64);
-        let to = texts::put_number(out, to, b": locals ", words::locals_of(h, class) as u64);
-        let to = texts::put_number(
-            out,
-            to,
-            b", the first is local ",
-            words::first_slot(h, class) as u64,
-        );
-        return texts::put_byte(out, to, b'\n');
+        count(b"  class ", class);
+        count(b": locals ", words::locals_of(h, class));
+        count(b", the first is local ", words::first_slot(h, class));
+        say(b"\n");
     }
-    at
 }
 
 // The configured classes.
-fn class_lines(h: Header, out: &mut [u8], at: usize) -> usize {
-    let mut to = at;
+fn class_lines(h: Header) {
     let mut class = 0;
     while class < 8 {
-        to = class_line(h, class, out, to);
+        class_line(h, class);
         class += 1;
     }
-    to
 }
 
-// The totals, and whether the state stands.
+// The name of a number.
+fn name(n: usize) {
+    let mut text = [0u8; 16];
+    let to = names::name(&mut text, 0, n);
+    say_part(&text, to);
+}
+
+// Whether the state stands, and the totals, on so many frames and trees.
+fn total_line(t: Totals, frames: usize, trees: usize) {
+    let o = t.outcome;
+    say(b"state ");
+    name(numbers::number(o));
+    count(b": free frames ", t.free);
+    count(b" of ", frames);
+    count(b", whole free trees ", t.trees);
+    count(b" of ", trees);
+    say(b"\n");
+}
+
+// The totals of the words.
 fn totals<'a>(
     h: Header,
     table: &'a [u32; 64],
     trees: &'a [u32],
     locals: &'a [u64],
     bits: &'a [u64],
-    out: &mut [u8],
-    at: usize,
-) -> usize {
+) {
     let told = statistics::tell(h, table, trees, locals, bits, 8);
     let t = told.totals;
-    let o = t.outcome;
-    let to = texts::append(out, at, b"state ");
-    let to = answers::name(out, to, numbers::number(o));
-    let to = texts::put_number(out, to, b": free frames ", t.free as u64);
-    let to = texts::put_number(out, to, b" of ", h.frames as u64);
-    let to = texts::put_number(out, to, b", whole free trees ", t.trees as u64);
-    let to = texts::put_number(out, to, b" of ", trees.len() as u64);
-    texts::put_byte(out, to, b'\n')
+    total_line(t, h.frames, trees.len());
 }
 
 // The header, and the signs of the map.
-fn heading(h: Header, out: &mut [u8], at: usize) -> usize {
-    let to = texts::put_number(out, at, b"frames ", h.frames as u64);
-    let to = texts::put_number(out, to, b", default class ", h.default as u64);
-    texts::append(
-        out,
-        to,
+fn heading(h: Header) {
+    count(b"frames ", h.frames);
+    count(b", default class ", h.default);
+    say(
         b"\ntrees: . free, 1 to 9 tenths held, # none free; then the class; * reserved, its free is with a local",
-    )
+    );
 }
 
 // The classes and the reservations.
-fn holders(h: Header, locals: &[u64], out: &mut [u8], at: usize) -> usize {
-    let to = texts::append(out, at, b"classes\n");
-    let to = class_lines(h, out, to);
-    let to = texts::append(out, to, b"reservations\n");
-    local_lines(locals, out, to)
+fn holders(h: Header, locals: &[u64]) {
+    say(b"\nclasses\n");
+    class_lines(h);
+    say(b"reservations\n");
+    local_lines(locals);
 }
 
 // The whole picture.
@@ -175,11 +186,9 @@ pub fn look<'a>(
     trees: &'a [u32],
     locals: &'a [u64],
     bits: &'a [u64],
-    out: &mut [u8],
-    at: usize,
-) -> usize {
-    let to = heading(h, out, at);
-    let to = map(trees, out, to);
-    let to = holders(h, locals, out, to);
-    totals(h, table, trees, locals, bits, out, to)
+) {
+    heading(h);
+    map(trees);
+    holders(h, locals);
+    totals(h, table, trees, locals, bits);
 }

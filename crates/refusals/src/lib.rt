@@ -5,11 +5,12 @@ use rules::Header;
 use rules::Name;
 use rules::Request;
 use ways::Granted;
+use ways::Reply;
 
 // The frame that the get to be refused with n names: the one past the last, one that is no multiple of 2, one that is held, or none.
-fn name(h: Header, n: usize) -> Name {
+fn name(frames: usize, n: usize) -> Name {
     match n {
-        3 => Name::Frame(h.frames),
+        3 => Name::Frame(frames),
         4 => Name::Frame(1),
         7 => Name::Frame(0),
         _ => Name::Any,
@@ -41,7 +42,25 @@ fn local(n: usize) -> Given {
     }
 }
 
-// A get to be refused with n.
+// What it asks for.
+fn request(n: usize) -> Request {
+    Request {
+        order: order(n),
+        class: class(n),
+        local: local(n),
+    }
+}
+
+// The number that a get answered.
+fn number(reply: Reply) -> usize {
+    let granted = reply.granted;
+    match granted {
+        Granted::Done { frame: _, class: _ } => 0,
+        Granted::Refused(x) => numbers::refusal_number(x),
+    }
+}
+
+// A get to be refused with n, and the number that it answers.
 fn get(
     h: Header,
     table: &[u32; 64],
@@ -50,16 +69,28 @@ fn get(
     bits: &mut [u64],
     n: usize,
 ) -> usize {
-    let q = Request {
-        order: order(n),
-        class: class(n),
-        local: local(n),
-    };
-    let reply = llfree::get(h, table, trees, locals, bits, name(h, n), q);
-    let granted = reply.granted;
-    match granted {
-        Granted::Done { frame: _, class: _ } => 0,
-        Granted::Refused(x) => numbers::refusal_number(x),
+    let q = request(n);
+    number(llfree::get(h, table, trees, locals, bits, name(h.frames, n), q))
+}
+
+// The get that was to be refused with n, and the number that it answered.
+fn say_get(n: usize, number: usize) {
+    match n {
+        2 => says::answered(b"get of order 12", number),
+        3 => says::answered(b"get of the frame past the last", number),
+        4 => says::answered(b"get of frame 1 at order 1", number),
+        5 => says::answered(b"get for class 2", number),
+        6 => says::answered(b"get with local 2", number),
+        _ => says::answered(b"get of frame 0, which is held", number),
+    }
+}
+
+// The gets to be refused with 2 to 7.
+fn gets(h: Header, table: &[u32; 64], trees: &mut [u32], locals: &mut [u64], bits: &mut [u64]) {
+    let mut n = 2;
+    while n < 8 {
+        say_get(n, get(h, table, trees, locals, bits, n));
+        n += 1;
     }
 }
 
@@ -70,45 +101,22 @@ fn short_drain(
     trees: &mut [u32],
     locals: &mut [u64],
     bits: &mut [u64],
-) -> usize {
-    if trees.len() == 0 {
-        return 0;
+) {
+    if trees.len() > 0 {
+        let n = trees.len() - 1;
+        let drained = llfree::drain(h, table, &mut trees[0..n], locals, bits);
+        says::outcome(b"drain on a tree word too few", drained);
     }
-    let n = trees.len() - 1;
-    numbers::number(llfree::drain(h, table, &mut trees[0..n], locals, bits))
 }
 
-// A put of the frame 1, which is free.
-fn free_put(
-    h: Header,
-    table: &[u32; 64],
-    trees: &mut [u32],
-    locals: &mut [u64],
-    bits: &mut [u64],
-) -> usize {
-    let q = Request {
-        order: 0,
-        class: 0,
-        local: Given::Nothing,
-    };
-    numbers::number(llfree::put(h, table, trees, locals, bits, 1, q))
-}
-
-// A start with the other class as default: its table is not accepted.
-fn other_start(
-    h: Header,
-    table: &[u32; 64],
-    trees: &mut [u32],
-    locals: &mut [u64],
-    bits: &mut [u64],
-) -> usize {
+// The header with the other class as default: its table is not accepted.
+fn other(h: Header) -> Header {
     let places = h.places;
-    let other = Header {
+    Header {
         frames: h.frames,
         default: 0,
         places: places,
-    };
-    numbers::number(llfree::start(other, table, trees, locals, bits, true))
+    }
 }
 
 // Statistics with a row too few.
@@ -118,41 +126,28 @@ fn seven_rows<'a>(
     trees: &'a [u32],
     locals: &'a [u64],
     bits: &'a [u64],
-) -> usize {
+) {
     let report = statistics::tell(h, table, trees, locals, bits, 7);
     let totals = report.totals;
     let outcome = totals.outcome;
-    numbers::number(outcome)
+    says::outcome(b"statistics with seven rows", outcome);
 }
 
-// The call to be refused with n, and the number that it answers. No call is refused with 9.
-fn call(
-    h: Header,
-    table: &[u32; 64],
-    trees: &mut [u32],
-    locals: &mut [u64],
-    bits: &mut [u64],
-    n: usize,
-) -> usize {
-    match n {
-        1 => short_drain(h, table, trees, locals, bits),
-        8 => free_put(h, table, trees, locals, bits),
-        9 => 9,
-        10 => other_start(h, table, trees, locals, bits),
-        11 => seven_rows(h, table, trees, locals, bits),
-        _ => get(h, table, trees, locals, bits, n),
-    }
-}
-
-// Each refusal in turn, on a store of which frame 0 alone is held.
+// Each refusal in turn, on a store of which frame 0 alone is held; no call is refused with 9.
 pub fn show(h: Header, table: &[u32; 64], trees: &mut [u32], locals: &mut [u64], bits: &mut [u64]) {
-    says::heading(b"\nWhat the loader does on each refusal\n");
+    says::say(b"\nWhat the loader does on each refusal\n");
     let started = llfree::start(h, table, trees, locals, bits, true);
     says::outcome(b"start", started);
-    says::answered(b"get of frame 0", get(h, table, trees, locals, bits, 7));
-    let mut n = 1;
-    while n < 12 {
-        says::refused(n, call(h, table, trees, locals, bits, n));
-        n += 1;
-    }
+    let held = get(h, table, trees, locals, bits, 7);
+    says::answered(b"get of frame 0", held);
+    short_drain(h, table, trees, locals, bits);
+    gets(h, table, trees, locals, bits);
+    let q = request(8);
+    let put = llfree::put(h, table, trees, locals, bits, 1, q);
+    says::outcome(b"put of frame 1, which is free", put);
+    says::answered(b"no call", 9);
+    let wrong = other(h);
+    let refused = llfree::start(wrong, table, trees, locals, bits, true);
+    says::outcome(b"start with default 0", refused);
+    seven_rows(h, table, trees, locals, bits);
 }

@@ -1,6 +1,5 @@
-// The runner's store: what a line sets, the words that it stores, the lengths that are lent, and the calls on the words lent.
-use answers::Answered;
-use commands::Call;
+// The runner's store: what a line sets, the words that it stores, and the lengths that are lent.
+use commands::Command;
 use commands::Length;
 use commands::Setting;
 use commands::Store;
@@ -64,7 +63,7 @@ fn held_length(n: Length) -> usize {
 }
 
 // A set-up line.
-pub fn set(held: Held, s: Setting) -> Held {
+fn set(held: Held, s: Setting) -> Held {
     let h = held.h;
     let places = h.places;
     match s {
@@ -103,6 +102,14 @@ pub fn set(held: Held, s: Setting) -> Held {
             bits: held.bits,
             rows: r,
         },
+    }
+}
+
+// The store after a line: a set-up line changes it.
+pub fn after(held: Held, c: Command) -> Held {
+    match c {
+        Command::Set(s) => set(held, s),
+        _ => held,
     }
 }
 
@@ -201,53 +208,4 @@ pub fn lent_bits(held: Held, most: usize) -> usize
     }
     let h = held.h;
     at_most(32 * exact_trees(h.frames), most)
-}
-
-// A call, on the words lent to it.
-fn call_on(
-    held: Held,
-    table: &[u32; 64],
-    trees: &mut [u32],
-    locals: &mut [u64],
-    bits: &mut [u64],
-    c: Call,
-) -> Answered {
-    let h = held.h;
-    match c {
-        Call::Start(all_free) => {
-            Answered::Start(llfree::start(h, table, trees, locals, bits, all_free))
-        }
-        Call::Get { name, q } => {
-            Answered::Get(llfree::get(h, table, trees, locals, bits, name, q))
-        }
-        Call::Put { frame, q } => {
-            Answered::Put(llfree::put(h, table, trees, locals, bits, frame, q))
-        }
-        Call::Drain => Answered::Drain(llfree::drain(h, table, trees, locals, bits)),
-        Call::Stats => {
-            Answered::Stats(statistics::tell(h, table, trees, locals, bits, held.rows))
-        }
-    }
-}
-
-// A call, with the lengths lent from now on.
-pub fn call(
-    held: Held,
-    table: &[u32; 64],
-    trees: &mut [u32],
-    locals: &mut [u64],
-    bits: &mut [u64],
-    c: Call,
-) -> Answered {
-    let t = lent_trees(held, trees.len());
-    let l = lent_locals(held, locals.len());
-    let b = lent_bits(held, bits.len());
-    call_on(
-        held,
-        table,
-        &mut trees[0..t],
-        &mut locals[0..l],
-        &mut bits[0..b],
-        c,
-    )
 }

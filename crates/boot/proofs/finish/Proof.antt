@@ -1,6 +1,6 @@
 -- `boot::finish` meets its contract. Assumes nothing.
 use borrow.Author.Needs.{needs}
-use native.Mathlib.Omega.{arith}
+use mathlib.Core.Path.{_∙_}
 use Rattle.boot.proofs.finish.Statement.{statement}
 use Rattle.boot.proofs.finish.Tie as tie
 
@@ -10,26 +10,17 @@ give-all-requires c κs = search needs
 drain-requires : tie.Need-drain-requires
 drain-requires c κs = search needs
 
-slice-aggregate-outcome : tie.Need-slice-aggregate-outcome
-slice-aggregate-outcome c = search needs
-
-outcome-requires : tie.Need-outcome-requires
-outcome-requires c κs = search needs
-
-tell-requires : tie.Need-tell-requires
-tell-requires c κs = search needs
-
 figures-requires : tie.Need-figures-requires
 figures-requires c κs = search needs
 
 same-length : tie.Need-same-length
-same-length c = let d = c .before .before .before .before .before .before .before .before .before .before .before .before .before in let g = d .before .before .before .before .before .before .before .before .before .before in omega (arith, d .drain .kept .1 .1 .0, g .give-all .kept .1 .1 .0)
+same-length c = c .before .before .before .before .before .before .before .before .before .before .drain .kept .1 .1 .0 ∙ c .before .before .before .before .before .before .before .before .before .before .before .before .before .before .before .before .before .before .before .before .give-all .kept .1 .1 .0
 
 same-length-2 : tie.Need-same-length-2
-same-length-2 c = let d = c .before .before .before .before .before .before .before .before .before .before .before .before .before in let g = d .before .before .before .before .before .before .before .before .before .before in omega (arith, d .drain .kept .1 .1 .1 .0, g .give-all .kept .1 .1 .1 .0)
+same-length-2 c = c .before .before .before .before .before .before .before .before .before .before .drain .kept .1 .1 .1 .0 ∙ c .before .before .before .before .before .before .before .before .before .before .before .before .before .before .before .before .before .before .before .before .give-all .kept .1 .1 .1 .0
 
 same-length-3 : tie.Need-same-length-3
-same-length-3 c = let d = c .before .before .before .before .before .before .before .before .before .before .before .before .before in let g = d .before .before .before .before .before .before .before .before .before .before in omega (arith, d .drain .kept .1 .1 .1 .1 .0, g .give-all .kept .1 .1 .1 .1 .0)
+same-length-3 c = c .before .before .before .before .before .before .before .before .before .before .drain .kept .1 .1 .1 .1 .0 ∙ c .before .before .before .before .before .before .before .before .before .before .before .before .before .before .before .before .before .before .before .before .give-all .kept .1 .1 .1 .1 .0
 
 returns : tie.Need-returns
 returns c = search needs
@@ -40,9 +31,6 @@ finish-spec =
     (tie.spec
     give-all-requires
     drain-requires
-    slice-aggregate-outcome
-    outcome-requires
-    tell-requires
     figures-requires
     same-length
     same-length-2

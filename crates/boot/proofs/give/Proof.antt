@@ -27,20 +27,14 @@ loop-less c = search needs
 loop-again : tie.Need-loop-again Inv-loop μ-loop
 loop-again c = search needs
 
-request-requires : tie.Need-request-requires Inv-loop μ-loop
-request-requires c κs = search needs
+mul-give-block : tie.Need-mul-give-block Inv-loop μ-loop
+mul-give-block c = search needs
 
-mul-put : tie.Need-mul-put Inv-loop μ-loop
-mul-put c = search needs
+array-read-give-block : tie.Need-array-read-give-block Inv-loop μ-loop
+array-read-give-block c = search needs
 
-array-read-put : tie.Need-array-read-put Inv-loop μ-loop
-array-read-put c = search needs
-
-put-requires : tie.Need-put-requires Inv-loop μ-loop
-put-requires c κs = search needs
-
-gave-requires : tie.Need-gave-requires Inv-loop μ-loop
-gave-requires c κs = search needs
+give-block-requires : tie.Need-give-block-requires Inv-loop μ-loop
+give-block-requires c κs = search needs
 
 loop-less-2 : tie.Need-loop-less-2 Inv-loop μ-loop
 loop-less-2 c = search needs
@@ -71,11 +65,9 @@ give-spec =
     has-block-requires
     loop-less
     loop-again
-    request-requires
-    mul-put
-    array-read-put
-    put-requires
-    gave-requires
+    mul-give-block
+    array-read-give-block
+    give-block-requires
     loop-less-2
     loop-again-2
     same-length

@@ -43,17 +43,11 @@ loop-again c =
       ),
     )
 
-request-requires : tie.Need-request-requires Inv-loop μ-loop
-request-requires c κs = search needs
+take-block-requires : tie.Need-take-block-requires Inv-loop μ-loop
+take-block-requires c κs = search needs
 
-get-requires : tie.Need-get-requires Inv-loop μ-loop
-get-requires c κs = search needs
-
-got-requires : tie.Need-got-requires Inv-loop μ-loop
-got-requires c κs = search needs
-
-enum-known-granted : tie.Need-enum-known-granted Inv-loop μ-loop
-enum-known-granted c = search needs
+enum-known-block : tie.Need-enum-known-block Inv-loop μ-loop
+enum-known-block c = search needs
 
 enum-told : tie.Need-enum-told Inv-loop μ-loop
 enum-told c = search needs
@@ -81,10 +75,10 @@ size-requires c κs = search needs
 
 add-frames : tie.Need-add-frames Inv-loop μ-loop
 add-frames c =
-    let i = c .before .before .before .before .before .before .before .before .before .before .before .before .before .before .before .before .before .before .before .loop .inv in
-    let few : framesOf (c .before .before .before .before .before .before .before .before .before .before .before .before .before .before .before .before .before .before .before .before .before .before .before .before .args .p) < 4096 = frames-few (c .before .before .before .before .before .before .before .before .before .before .before .before .before .before .before .before .before .before .before .before .before .before .before .before .args .p) in
-    let d = above-digit (c .before .before .before .before .before .before .before .before .before .before .before .before .before .before .before .before .before .before .before .before .frames .result) (c .before .before .before .before .before .before .before .before .before .before .before .before .before .before .before .before .before .before .before .loop .order) (c .before .before .before .before .before .before .before .before .before .before .before .before .before .before .before .before .before .before .loop-test .taken) (sym (c .before .before .before .before .before .before .before .before .before .before .before .before .before .before .before .before .before .has-block .ensures) ∙ not-false _ (c .before .before .before .before .before .before .before .before .before .before .before .before .before .before .before .before .if1 .left)) in
-    let l = above-le (c .before .before .before .before .before .before .before .before .before .before .before .before .before .before .before .before .before .before .before .before .frames .result) (c .before .before .before .before .before .before .before .before .before .before .before .before .before .before .before .before .before .before .before .loop .order - 1) in
+    let i = c .before .before .before .before .before .before .before .before .before .before .before .before .before .before .before .before .before .loop .inv in
+    let few : framesOf (c .before .before .before .before .before .before .before .before .before .before .before .before .before .before .before .before .before .before .before .before .before .before .args .p) < 4096 = frames-few (c .before .before .before .before .before .before .before .before .before .before .before .before .before .before .before .before .before .before .before .before .before .before .args .p) in
+    let d = above-digit (c .before .before .before .before .before .before .before .before .before .before .before .before .before .before .before .before .before .before .frames .result) (c .before .before .before .before .before .before .before .before .before .before .before .before .before .before .before .before .before .loop .order) (c .before .before .before .before .before .before .before .before .before .before .before .before .before .before .before .before .loop-test .taken) (sym (c .before .before .before .before .before .before .before .before .before .before .before .before .before .before .before .has-block .ensures) ∙ not-false _ (c .before .before .before .before .before .before .before .before .before .before .before .before .before .before .if1 .left)) in
+    let l = above-le (c .before .before .before .before .before .before .before .before .before .before .before .before .before .before .before .before .before .before .frames .result) (c .before .before .before .before .before .before .before .before .before .before .before .before .before .before .before .before .before .loop .order - 1) in
     omega (arith, c .size .ensures, i .1 .0, i .1 .1 .0)
 
 loop-less-2 : tie.Need-loop-less-2 Inv-loop μ-loop
@@ -92,8 +86,8 @@ loop-less-2 c = search needs
 
 loop-again-2 : tie.Need-loop-again-2 Inv-loop μ-loop
 loop-again-2 c =
-    let i = c .before .before .before .before .before .before .before .before .before .before .before .before .before .before .before .before .before .before .before .loop .inv in
-    let d = above-digit (c .before .before .before .before .before .before .before .before .before .before .before .before .before .before .before .before .before .before .before .before .frames .result) (c .before .before .before .before .before .before .before .before .before .before .before .before .before .before .before .before .before .before .before .loop .order) (c .before .before .before .before .before .before .before .before .before .before .before .before .before .before .before .before .before .before .loop-test .taken) (sym (c .before .before .before .before .before .before .before .before .before .before .before .before .before .before .before .before .before .has-block .ensures) ∙ not-false _ (c .before .before .before .before .before .before .before .before .before .before .before .before .before .before .before .before .if1 .left)) in
+    let i = c .before .before .before .before .before .before .before .before .before .before .before .before .before .before .before .before .before .loop .inv in
+    let d = above-digit (c .before .before .before .before .before .before .before .before .before .before .before .before .before .before .before .before .before .before .frames .result) (c .before .before .before .before .before .before .before .before .before .before .before .before .before .before .before .before .before .loop .order) (c .before .before .before .before .before .before .before .before .before .before .before .before .before .before .before .before .loop-test .taken) (sym (c .before .before .before .before .before .before .before .before .before .before .before .before .before .before .before .has-block .ensures) ∙ not-false _ (c .before .before .before .before .before .before .before .before .before .before .before .before .before .before .if1 .left)) in
     (search needs, (rw (← d, ← i .1 .0, c .size .ensures), (i .1 .1 .0, search needs)))
 
 same-length-4 : tie.Need-same-length-4 Inv-loop μ-loop
@@ -124,10 +118,8 @@ take-spec =
     has-block-requires
     loop-less
     loop-again
-    request-requires
-    get-requires
-    got-requires
-    enum-known-granted
+    take-block-requires
+    enum-known-block
     enum-told
     same-length
     same-length-2

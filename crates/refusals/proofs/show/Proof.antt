@@ -1,91 +1,109 @@
 -- `refusals::show` meets its contract. Assumes nothing.
 use borrow.Author.Needs.{needs}
-use Prim.Native.Nat.{_-_}
-use mathlib.Core.Path.{_≡_}
-use lib.ListN.{length}
+use mathlib.Core.Path.{_∙_}
 use Rattle.refusals.proofs.show.Statement.{statement}
 use Rattle.refusals.proofs.show.Tie as tie
 
-abbrev Inv-loop : tie.InvT-loop
-Inv-loop h table trees₀ locals₀ bits₀ n₀ trees locals bits n = (length trees ≡ length trees₀) × ((length locals ≡ length locals₀) × (length bits ≡ length bits₀))
+slice-aggregate-say : tie.Need-slice-aggregate-say
+slice-aggregate-say c = search needs
 
-abbrev μ-loop : tie.MeasureT-loop
-μ-loop h table trees₀ locals₀ bits₀ n₀ trees locals bits n = 12 - n
+say-requires : tie.Need-say-requires
+say-requires c κs = search needs
 
-slice-aggregate-heading : tie.Need-slice-aggregate-heading Inv-loop μ-loop
-slice-aggregate-heading c = search needs
-
-heading-requires : tie.Need-heading-requires Inv-loop μ-loop
-heading-requires c κs = search needs
-
-start-requires : tie.Need-start-requires Inv-loop μ-loop
+start-requires : tie.Need-start-requires
 start-requires c κs = search needs
 
-slice-aggregate-outcome : tie.Need-slice-aggregate-outcome Inv-loop μ-loop
+slice-aggregate-outcome : tie.Need-slice-aggregate-outcome
 slice-aggregate-outcome c = search needs
 
-outcome-requires : tie.Need-outcome-requires Inv-loop μ-loop
+outcome-requires : tie.Need-outcome-requires
 outcome-requires c κs = search needs
 
-slice-aggregate-answered : tie.Need-slice-aggregate-answered Inv-loop μ-loop
-slice-aggregate-answered c = search needs
-
-get-requires : tie.Need-get-requires Inv-loop μ-loop
+get-requires : tie.Need-get-requires
 get-requires c κs = search needs
 
-answered-requires : tie.Need-answered-requires Inv-loop μ-loop
+slice-aggregate-answered : tie.Need-slice-aggregate-answered
+slice-aggregate-answered c = search needs
+
+answered-requires : tie.Need-answered-requires
 answered-requires c κs = search needs
 
-loop-holds : tie.Need-loop-holds Inv-loop μ-loop
-loop-holds c = search needs
+short-drain-requires : tie.Need-short-drain-requires
+short-drain-requires c κs = search needs
 
-call-requires : tie.Need-call-requires Inv-loop μ-loop
-call-requires c κs = search needs
+gets-requires : tie.Need-gets-requires
+gets-requires c κs = search needs
 
-refused-requires : tie.Need-refused-requires Inv-loop μ-loop
-refused-requires c κs = search needs
+request-requires : tie.Need-request-requires
+request-requires c κs = search needs
 
-add-n : tie.Need-add-n Inv-loop μ-loop
-add-n c = search needs
+put-requires : tie.Need-put-requires
+put-requires c κs = search needs
 
-loop-less : tie.Need-loop-less Inv-loop μ-loop
-loop-less c = search needs
+slice-aggregate-outcome-2 : tie.Need-slice-aggregate-outcome-2
+slice-aggregate-outcome-2 c = search needs
 
-loop-again : tie.Need-loop-again Inv-loop μ-loop
-loop-again c = search needs
+outcome-requires-2 : tie.Need-outcome-requires-2
+outcome-requires-2 c κs = search needs
 
-same-length : tie.Need-same-length Inv-loop μ-loop
-same-length c = search needs
+slice-aggregate-answered-2 : tie.Need-slice-aggregate-answered-2
+slice-aggregate-answered-2 c = search needs
 
-same-length-2 : tie.Need-same-length-2 Inv-loop μ-loop
-same-length-2 c = search needs
+answered-requires-2 : tie.Need-answered-requires-2
+answered-requires-2 c κs = search needs
 
-same-length-3 : tie.Need-same-length-3 Inv-loop μ-loop
-same-length-3 c = search needs
+other-requires : tie.Need-other-requires
+other-requires c κs = search needs
 
-returns : tie.Need-returns Inv-loop μ-loop
+start-requires-2 : tie.Need-start-requires-2
+start-requires-2 c κs = search needs
+
+slice-aggregate-outcome-3 : tie.Need-slice-aggregate-outcome-3
+slice-aggregate-outcome-3 c = search needs
+
+outcome-requires-3 : tie.Need-outcome-requires-3
+outcome-requires-3 c κs = search needs
+
+seven-rows-requires : tie.Need-seven-rows-requires
+seven-rows-requires c κs = search needs
+
+same-length : tie.Need-same-length
+same-length c = c .before .before .before .before .before .before .before .before .before .before .before .before .start2 .kept .1 .1 .0 ∙ c .before .before .before .before .before .before .before .before .before .before .before .before .before .before .before .before .before .before .before .before .before .before .before .before .before .before .before .put .kept .1 .1 .0 ∙ c .before .before .before .before .before .before .before .before .before .before .before .before .before .before .before .before .before .before .before .before .before .before .before .before .before .before .before .before .before .before .before .before .before .before .before .before .before .before .gets .kept .1 .1 .0 ∙ c .before .before .before .before .before .before .before .before .before .before .before .before .before .before .before .before .before .before .before .before .before .before .before .before .before .before .before .before .before .before .before .before .before .before .before .before .before .before .before .before .before .before .before .before .before .before .before .before .short-drain .kept .1 .1 .0 ∙ c .before .before .before .before .before .before .before .before .before .before .before .before .before .before .before .before .before .before .before .before .before .before .before .before .before .before .before .before .before .before .before .before .before .before .before .before .before .before .before .before .before .before .before .before .before .before .before .before .before .before .before .before .before .before .before .before .before .before .before .before .get .kept .1 .1 .0 ∙ c .before .before .before .before .before .before .before .before .before .before .before .before .before .before .before .before .before .before .before .before .before .before .before .before .before .before .before .before .before .before .before .before .before .before .before .before .before .before .before .before .before .before .before .before .before .before .before .before .before .before .before .before .before .before .before .before .before .before .before .before .before .before .before .before .before .before .before .before .before .before .before .before .start .kept .1 .1 .0
+
+same-length-2 : tie.Need-same-length-2
+same-length-2 c = c .before .before .before .before .before .before .before .before .before .before .before .before .start2 .kept .1 .1 .1 .0 ∙ c .before .before .before .before .before .before .before .before .before .before .before .before .before .before .before .before .before .before .before .before .before .before .before .before .before .before .before .put .kept .1 .1 .1 .0 ∙ c .before .before .before .before .before .before .before .before .before .before .before .before .before .before .before .before .before .before .before .before .before .before .before .before .before .before .before .before .before .before .before .before .before .before .before .before .before .before .gets .kept .1 .1 .1 .0 ∙ c .before .before .before .before .before .before .before .before .before .before .before .before .before .before .before .before .before .before .before .before .before .before .before .before .before .before .before .before .before .before .before .before .before .before .before .before .before .before .before .before .before .before .before .before .before .before .before .before .short-drain .kept .1 .1 .1 .0 ∙ c .before .before .before .before .before .before .before .before .before .before .before .before .before .before .before .before .before .before .before .before .before .before .before .before .before .before .before .before .before .before .before .before .before .before .before .before .before .before .before .before .before .before .before .before .before .before .before .before .before .before .before .before .before .before .before .before .before .before .before .before .get .kept .1 .1 .1 .0 ∙ c .before .before .before .before .before .before .before .before .before .before .before .before .before .before .before .before .before .before .before .before .before .before .before .before .before .before .before .before .before .before .before .before .before .before .before .before .before .before .before .before .before .before .before .before .before .before .before .before .before .before .before .before .before .before .before .before .before .before .before .before .before .before .before .before .before .before .before .before .before .before .before .before .start .kept .1 .1 .1 .0
+
+same-length-3 : tie.Need-same-length-3
+same-length-3 c = c .before .before .before .before .before .before .before .before .before .before .before .before .start2 .kept .1 .1 .1 .1 .0 ∙ c .before .before .before .before .before .before .before .before .before .before .before .before .before .before .before .before .before .before .before .before .before .before .before .before .before .before .before .put .kept .1 .1 .1 .1 .0 ∙ c .before .before .before .before .before .before .before .before .before .before .before .before .before .before .before .before .before .before .before .before .before .before .before .before .before .before .before .before .before .before .before .before .before .before .before .before .before .before .gets .kept .1 .1 .1 .1 .0 ∙ c .before .before .before .before .before .before .before .before .before .before .before .before .before .before .before .before .before .before .before .before .before .before .before .before .before .before .before .before .before .before .before .before .before .before .before .before .before .before .before .before .before .before .before .before .before .before .before .before .short-drain .kept .1 .1 .1 .1 .0 ∙ c .before .before .before .before .before .before .before .before .before .before .before .before .before .before .before .before .before .before .before .before .before .before .before .before .before .before .before .before .before .before .before .before .before .before .before .before .before .before .before .before .before .before .before .before .before .before .before .before .before .before .before .before .before .before .before .before .before .before .before .before .get .kept .1 .1 .1 .1 .0 ∙ c .before .before .before .before .before .before .before .before .before .before .before .before .before .before .before .before .before .before .before .before .before .before .before .before .before .before .before .before .before .before .before .before .before .before .before .before .before .before .before .before .before .before .before .before .before .before .before .before .before .before .before .before .before .before .before .before .before .before .before .before .before .before .before .before .before .before .before .before .before .before .before .before .start .kept .1 .1 .1 .1 .0
+
+returns : tie.Need-returns
 returns c = search needs
 
 pub show-spec : {M : Type 1} → statement M
 show-spec =
     tie.close
     (tie.spec
-    Inv-loop
-    μ-loop
-    slice-aggregate-heading
-    heading-requires
+    slice-aggregate-say
+    say-requires
     start-requires
     slice-aggregate-outcome
     outcome-requires
-    slice-aggregate-answered
     get-requires
+    slice-aggregate-answered
     answered-requires
-    loop-holds
-    call-requires
-    refused-requires
-    add-n
-    loop-less
-    loop-again
+    short-drain-requires
+    gets-requires
+    request-requires
+    put-requires
+    slice-aggregate-outcome-2
+    outcome-requires-2
+    slice-aggregate-answered-2
+    answered-requires-2
+    other-requires
+    start-requires-2
+    slice-aggregate-outcome-3
+    outcome-requires-3
+    seven-rows-requires
     same-length
     same-length-2
     same-length-3

@@ -4,19 +4,34 @@ use Rattle.runner.proofs.main.Statement.{statement}
 use Rattle.runner.proofs.main.Tie as tie
 
 abbrev Inv-loop : tie.InvT-loop
-Inv-loop table₀ trees₀ locals₀ bits₀ buf₀ out₀ turns₀ r₀ table trees locals bits buf out turns r = Unit {0}
+Inv-loop table₀ trees₀ locals₀ bits₀ buf₀ out₀ turns₀ held₀ r₀ table trees locals bits buf out turns held r = Unit {0}
 
 abbrev μ-loop : tie.MeasureT-loop
-μ-loop table₀ trees₀ locals₀ bits₀ buf₀ out₀ turns₀ r₀ table trees locals bits buf out turns r = turns
+μ-loop table₀ trees₀ locals₀ bits₀ buf₀ out₀ turns₀ held₀ r₀ table trees locals bits buf out turns held r = turns
 
 begun-requires : tie.Need-begun-requires Inv-loop μ-loop
 begun-requires c κs = search needs
 
+begun-requires-2 : tie.Need-begun-requires-2 Inv-loop μ-loop
+begun-requires-2 c κs = search needs
+
 loop-holds : tie.Need-loop-holds Inv-loop μ-loop
 loop-holds c = search needs
 
-turn-requires : tie.Need-turn-requires Inv-loop μ-loop
-turn-requires c κs = search needs
+end-of-requires : tie.Need-end-of-requires Inv-loop μ-loop
+end-of-requires c κs = search needs
+
+command-requires : tie.Need-command-requires Inv-loop μ-loop
+command-requires c κs = search needs
+
+obey-requires : tie.Need-obey-requires Inv-loop μ-loop
+obey-requires c κs = search needs
+
+after-requires : tie.Need-after-requires Inv-loop μ-loop
+after-requires c κs = search needs
+
+past-requires : tie.Need-past-requires Inv-loop μ-loop
+past-requires c κs = search needs
 
 returns : tie.Need-returns Inv-loop μ-loop
 returns c = search needs
@@ -30,8 +45,23 @@ loop-less c = search needs
 loop-again : tie.Need-loop-again Inv-loop μ-loop
 loop-again c = search needs
 
+more-requires : tie.Need-more-requires Inv-loop μ-loop
+more-requires c κs = search needs
+
 returns-2 : tie.Need-returns-2 Inv-loop μ-loop
 returns-2 c = search needs
+
+returns-3 : tie.Need-returns-3 Inv-loop μ-loop
+returns-3 c = search needs
+
+sub-turns-2 : tie.Need-sub-turns-2 Inv-loop μ-loop
+sub-turns-2 c = search needs
+
+loop-less-2 : tie.Need-loop-less-2 Inv-loop μ-loop
+loop-less-2 c = search needs
+
+loop-again-2 : tie.Need-loop-again-2 Inv-loop μ-loop
+loop-again-2 c = search needs
 
 pub main-spec : {M : Type 1} → statement M
 main-spec =
@@ -40,10 +70,20 @@ main-spec =
     Inv-loop
     μ-loop
     begun-requires
+    begun-requires-2
     loop-holds
-    turn-requires
+    end-of-requires
+    command-requires
+    obey-requires
+    after-requires
+    past-requires
     returns
     sub-turns
     loop-less
     loop-again
-    returns-2)
+    more-requires
+    returns-2
+    returns-3
+    sub-turns-2
+    loop-less-2
+    loop-again-2)

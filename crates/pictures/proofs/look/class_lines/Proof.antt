@@ -1,16 +1,14 @@
 -- `pictures::look::class_lines` meets its contract. Assumes nothing.
 use borrow.Author.Needs.{needs}
 use Prim.Native.Nat.{_-_}
-use mathlib.Core.Path.{_≡_}
-use lib.ListN.{length}
 use Rattle.pictures.proofs.look.class_lines.Statement.{statement}
 use Rattle.pictures.proofs.look.class_lines.Tie as tie
 
 abbrev Inv-loop : tie.InvT-loop
-Inv-loop h out₀ at to₀ class₀ out to class = length out ≡ length out₀
+Inv-loop h class₀ class = Unit {0}
 
 abbrev μ-loop : tie.MeasureT-loop
-μ-loop h out₀ at to₀ class₀ out to class = 8 - class
+μ-loop h class₀ class = 8 - class
 
 loop-holds : tie.Need-loop-holds Inv-loop μ-loop
 loop-holds c = search needs
@@ -27,9 +25,6 @@ loop-less c = search needs
 loop-again : tie.Need-loop-again Inv-loop μ-loop
 loop-again c = search needs
 
-same-length : tie.Need-same-length Inv-loop μ-loop
-same-length c = search needs
-
 returns : tie.Need-returns Inv-loop μ-loop
 returns c = search needs
 
@@ -44,5 +39,4 @@ class-lines-spec =
     add-class
     loop-less
     loop-again
-    same-length
     returns)

@@ -1,16 +1,15 @@
 -- `pictures::look::local_lines` meets its contract. Assumes nothing.
 use borrow.Author.Needs.{needs}
 use Prim.Native.Nat.{_-_}
-use mathlib.Core.Path.{_≡_}
 use lib.ListN.{length}
 use Rattle.pictures.proofs.look.local_lines.Statement.{statement}
 use Rattle.pictures.proofs.look.local_lines.Tie as tie
 
 abbrev Inv-loop : tie.InvT-loop
-Inv-loop locals out₀ at to₀ i₀ out to i = length out ≡ length out₀
+Inv-loop locals i₀ i = Unit {0}
 
 abbrev μ-loop : tie.MeasureT-loop
-μ-loop locals out₀ at to₀ i₀ out to i = length locals - i
+μ-loop locals i₀ i = length locals - i
 
 loop-holds : tie.Need-loop-holds Inv-loop μ-loop
 loop-holds c = search needs
@@ -36,9 +35,6 @@ loop-less c = search needs
 loop-again : tie.Need-loop-again Inv-loop μ-loop
 loop-again c = search needs
 
-same-length : tie.Need-same-length Inv-loop μ-loop
-same-length c = search needs
-
 returns : tie.Need-returns Inv-loop μ-loop
 returns c = search needs
 
@@ -56,5 +52,4 @@ local-lines-spec =
     add-i
     loop-less
     loop-again
-    same-length
     returns)

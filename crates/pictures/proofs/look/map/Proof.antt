@@ -1,16 +1,15 @@
 -- `pictures::look::map` meets its contract. Assumes nothing.
 use borrow.Author.Needs.{needs}
 use Prim.Native.Nat.{_-_}
-use mathlib.Core.Path.{_≡_}
 use lib.ListN.{length}
 use Rattle.pictures.proofs.look.map.Statement.{statement}
 use Rattle.pictures.proofs.look.map.Tie as tie
 
 abbrev Inv-loop : tie.InvT-loop
-Inv-loop trees out₀ at to₀ i₀ out to i = length out ≡ length out₀
+Inv-loop trees i₀ i = Unit {0}
 
 abbrev μ-loop : tie.MeasureT-loop
-μ-loop trees out₀ at to₀ i₀ out to i = length trees - i
+μ-loop trees i₀ i = length trees - i
 
 loop-holds : tie.Need-loop-holds Inv-loop μ-loop
 loop-holds c = search needs
@@ -39,12 +38,6 @@ loop-less c = search needs
 loop-again : tie.Need-loop-again Inv-loop μ-loop
 loop-again c = search needs
 
-put-byte-requires : tie.Need-put-byte-requires Inv-loop μ-loop
-put-byte-requires c κs = search needs
-
-same-length : tie.Need-same-length Inv-loop μ-loop
-same-length c = search needs
-
 returns : tie.Need-returns Inv-loop μ-loop
 returns c = search needs
 
@@ -63,6 +56,4 @@ map-spec =
     add-i
     loop-less
     loop-again
-    put-byte-requires
-    same-length
     returns)

@@ -1,9 +1,9 @@
--- `answers::reply` meets its contract. Assumes nothing.
+-- `replies::reply` meets its contract. Assumes nothing.
 use Rattle.texts.specs.Text.{say, and-then, and-byte, kept-length}
-use Rattle.answers.specs.Answers.{replyText}
+use Rattle.replies.specs.Replies.{replyText}
 use borrow.Author.Needs.{needs}
-use Rattle.answers.proofs.reply.Statement.{statement}
-use Rattle.answers.proofs.reply.Tie as tie
+use Rattle.replies.proofs.reply.Statement.{statement}
+use Rattle.replies.proofs.reply.Tie as tie
 
 slice-aggregate-append : tie.Need-slice-aggregate-append
 slice-aggregate-append c = search needs

@@ -1,9 +1,11 @@
--- `answers::name` meets its contract. Assumes nothing.
-use Rattle.texts.specs.Text.{say}
-use Rattle.answers.specs.Answers.{names, nameAt}
+-- `names::later_name` meets its contract. Assumes nothing.
+use mathlib.Core.Path.{sym, ap}
+use native.Mathlib.Omega.{arith}
+use Rattle.texts.specs.Text.{write, say}
+use Rattle.names.specs.Names.{names, nameAt, no-name}
 use borrow.Author.Needs.{needs}
-use Rattle.answers.proofs.name.Statement.{statement}
-use Rattle.answers.proofs.name.Tie as tie
+use Rattle.names.proofs.later_name.Statement.{statement}
+use Rattle.names.proofs.later_name.Tie as tie
 
 slice-aggregate-append : tie.Need-slice-aggregate-append
 slice-aggregate-append c = search needs
@@ -83,17 +85,13 @@ returns-6 : tie.Need-returns-6
 unfolding say names nameAt
 returns-6 c = rw (c .before .before .before .before .before .if6 .taken) (c .before .before .append6 .ensures)
 
-later-name-requires : tie.Need-later-name-requires
-later-name-requires c κs = search needs
-
-same-length-7 : tie.Need-same-length-7
-same-length-7 c = search needs
-
 returns-7 : tie.Need-returns-7
-returns-7 c = c .before .before .later-name .ensures
+unfolding write
+returns-7 c =
+    sym (ap (write _) (no-name _ (omega arith)))
 
-pub name-spec : {M : Type 1} → statement M
-name-spec =
+pub later-name-spec : {M : Type 1} → statement M
+later-name-spec =
     tie.close
     (tie.spec
     slice-aggregate-append
@@ -120,6 +118,4 @@ name-spec =
     append-requires-6
     same-length-6
     returns-6
-    later-name-requires
-    same-length-7
     returns-7)

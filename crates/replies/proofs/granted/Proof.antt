@@ -1,9 +1,9 @@
--- `answers::granted` meets its contract. Assumes nothing.
+-- `replies::granted` meets its contract. Assumes nothing.
 use Rattle.texts.specs.Text.{say, and-then}
-use Rattle.answers.specs.Answers.{grantedText}
+use Rattle.replies.specs.Replies.{grantedText}
 use borrow.Author.Needs.{needs}
-use Rattle.answers.proofs.granted.Statement.{statement}
-use Rattle.answers.proofs.granted.Tie as tie
+use Rattle.replies.proofs.granted.Statement.{statement}
+use Rattle.replies.proofs.granted.Tie as tie
 
 enum-known-g : tie.Need-enum-known-g
 enum-known-g c = search needs

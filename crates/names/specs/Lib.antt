@@ -1,0 +1,2 @@
+-- the numbers with their names
+pub mod Names

@@ -1,0 +1,2 @@
+-- the text of a get's answer
+pub mod Replies
