@@ -151,56 +151,6 @@ fn show(
     }
 }
 
-// The three patterns of a boot.
-struct Shown {
-    raster: Held,
-    first: Held,
-    second: Held,
-}
-
-// Takes the three patterns.
-fn show_all(
-    h: Header,
-    table: &[u32; 64],
-    trees: &mut [u32],
-    locals: &mut [u64],
-    bits: &mut [u64],
-) -> Shown {
-    let raster = show(h, table, trees, locals, bits, Pattern::Raster);
-    let first = show(h, table, trees, locals, bits, Pattern::FirstOverlay);
-    let second = show(h, table, trees, locals, bits, Pattern::SecondOverlay);
-    Shown {
-        raster: raster,
-        first: first,
-        second: second,
-    }
-}
-
-// Gives the three patterns back.
-fn give_all(
-    h: Header,
-    table: &[u32; 64],
-    trees: &mut [u32],
-    locals: &mut [u64],
-    bits: &mut [u64],
-    shown: Shown,
-) {
-    let raster = shown.raster;
-    let first = shown.first;
-    let second = shown.second;
-    give(h, table, trees, locals, bits, Pattern::Raster, raster);
-    give(h, table, trees, locals, bits, Pattern::FirstOverlay, first);
-    give(
-        h,
-        table,
-        trees,
-        locals,
-        bits,
-        Pattern::SecondOverlay,
-        second,
-    );
-}
-
 // The figures of the store.
 fn figures<'a>(
     h: Header,
@@ -213,31 +163,26 @@ fn figures<'a>(
     says::figures(h.frames, report);
 }
 
-// Drains: the reservations go back to their trees.
-fn drain(h: Header, table: &[u32; 64], trees: &mut [u32], locals: &mut [u64], bits: &mut [u64]) {
+// The calls after an accepted start: the patterns are taken and given back, and after a drain all frames are free again.
+fn serve(h: Header, table: &[u32; 64], trees: &mut [u32], locals: &mut [u64], bits: &mut [u64]) {
+    let raster = show(h, table, trees, locals, bits, Pattern::Raster);
+    let first = show(h, table, trees, locals, bits, Pattern::FirstOverlay);
+    let second = show(h, table, trees, locals, bits, Pattern::SecondOverlay);
+    figures(h, table, trees, locals, bits);
+    give(h, table, trees, locals, bits, Pattern::Raster, raster);
+    give(h, table, trees, locals, bits, Pattern::FirstOverlay, first);
+    give(
+        h,
+        table,
+        trees,
+        locals,
+        bits,
+        Pattern::SecondOverlay,
+        second,
+    );
     let drained = llfree::drain(h, table, trees, locals, bits);
     says::outcome(b"drain", drained);
-}
-
-// Gives the patterns back and drains: all frames are free again.
-fn finish(
-    h: Header,
-    table: &[u32; 64],
-    trees: &mut [u32],
-    locals: &mut [u64],
-    bits: &mut [u64],
-    shown: Shown,
-) {
-    give_all(h, table, trees, locals, bits, shown);
-    drain(h, table, trees, locals, bits);
     figures(h, table, trees, locals, bits);
-}
-
-// The calls after an accepted start.
-fn serve(h: Header, table: &[u32; 64], trees: &mut [u32], locals: &mut [u64], bits: &mut [u64]) {
-    let shown = show_all(h, table, trees, locals, bits);
-    figures(h, table, trees, locals, bits);
-    finish(h, table, trees, locals, bits, shown);
 }
 
 // The store starts with all frames free. On a header, a table and lengths that are accepted it is Done.
