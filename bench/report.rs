@@ -208,6 +208,10 @@ impl Report {
         let worst = grown.iter().max_by(|a, b| a.0.total_cmp(&b.0)).expect("cases");
         let above = grown.iter().filter(|g| g.0 > GROWTH).count();
         s += &format!("| time at 1,024 trees at most {GROWTH} times that at 64 | {:.1} | {}; {above} of {} above | {} |\n", worst.0, worst.1, grown.len(), met(above == 0));
+        let caches: Vec<(f64, &str)> = self.rows.iter().filter(|r| r.counted().is_none()).filter_map(|r| Some((r.growth()?, r.name.as_str()))).collect();
+        if let Some(worst) = caches.iter().max_by(|a, b| a.0.total_cmp(&b.0)) {
+            s += &format!("| the same of a start on words that a cache holds: no goal | {:.1} | {} | not counted |\n", worst.0, worst.1);
+        }
         let (at, deepest) = stack.iter().enumerate().max_by_key(|d| d.1.bytes).expect("calls");
         s += &format!("| stack of a call at most {} bytes | {} | {} | {} |\n", thousands(STACK), thousands(deepest.bytes), KINDS[at], met(deepest.bytes <= STACK));
         s

@@ -107,6 +107,7 @@ enum llfree_kind { LLFREE_INVALID = 0, LLFREE_STEAL = 1, LLFREE_DEMOTE = 2, LLFR
  */
 #define LLFREE_TREES(frames) (((size_t)(frames) + 2047) / 2048)
 #define LLFREE_BITMAP_WORDS(frames) (32 * LLFREE_TREES(frames))
+/* The number of local words of a header. */
 static inline size_t llfree_locals(struct llfree_header header) {
     size_t sum = 0;
     for (int i = 0; i < LLFREE_CLASSES; i++) sum += header.places[i] > 0 ? header.places[i] - 1u : 0u;

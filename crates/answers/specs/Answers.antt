@@ -1,4 +1,4 @@
--- The text of each answer, in ASCII. Assumes nothing.
+-- The text of each answer but a get's, in ASCII. Assumes nothing.
 use mathlib.Core.Bool.{Bool, true, false}
 use mathlib.Core.List.{List, [], _++_}
 use Prim.Native.Nat.{ℕ}

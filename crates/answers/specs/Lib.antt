@@ -1,2 +1,2 @@
--- the text of each answer
+-- the text of each answer but a get's
 pub mod Answers

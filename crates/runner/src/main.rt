@@ -3,7 +3,7 @@ use commands::Command;
 use inputs::Run;
 use stores::Held;
 
-// What a line says, done; the place past its answer.
+// What a line says, done, but for what it sets; the place past its answer.
 fn obey(
     c: Command,
     r: Run,
