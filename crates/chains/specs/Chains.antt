@@ -20,7 +20,7 @@ use Rattle.tallies.specs.Rows.{rowList}
 use Rattle.complete.specs.Complete.{refusalOf}
 use Rattle.sequence.specs.Demand.{Step, NoRestart, NoneStuck, Demand3}
 use Rattle.sequence.specs.Demand as Demand
-use Rattle.llfree_c.specs.declared.Answer.{Answer}
+use Rattle.numbers.specs.declared.Answer.{Answer}
 use Rattle.llfree_c.specs.declared.Figures.{Figures}
 use Rattle.llfree_c.specs.Promises.{StartNumber, GetAnswer, PutNumber, DrainNumber, FiguresAnswer}
 

@@ -2,7 +2,7 @@
 use rules::Found;
 use rules::Name;
 ghost use mathlib.Core.Path.{_≡_};
-ghost use Prim.Native.Nat.{ℕ, _+_, _-_, _*_, _/_, _^_, _<_, _≤_};
+ghost use Prim.Native.Nat.{_+_, _-_, _*_, _/_, _^_, _<_, _≤_};
 ghost use Rattle.rules.specs.Base.{out};
 ghost use Rattle.rules.specs.Lower.{searchIn, hasTree, lowerFind, lowerGet, lowerPut};
 ghost use Rattle.lower_laws.specs.Block.{Block};

@@ -23,7 +23,7 @@ use Rattle.standing_laws.specs.Standing.{TreeWords}
 use Rattle.reach.specs.Reach.{Unreachable}
 use Rattle.reach.specs.Memory.{memory-exactly}
 
--- 7 is Memory's number alone
+-- a get that tells 7 is refused with Memory
 told-memory : (g : Granted) (s : State) → tellGet g s .number ≡ 7 → g ≡ Granted.Refused Refusal.Memory
 unfolding tellGet numberOf
 told-memory (Granted.Done f k) s e = absurd (omega arith)

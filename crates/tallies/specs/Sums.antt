@@ -1,4 +1,4 @@
--- Sums over the first trees and locals, as the loops make them: parts of the definitions of statistics. Assumes nothing.
+-- Sums by class over the first trees and locals, as the loops make them: parts of the definitions of statistics. Assumes nothing.
 use mathlib.Core.Path.{_≡_, refl, sym, _∙_}
 use mathlib.Core.Bool.{Bool, true, false}
 use mathlib.Core.List.{List}

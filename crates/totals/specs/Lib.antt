@@ -1,2 +1,2 @@
--- the sums that the loops make, and a bound of the number of trees
+-- the sums that the loops make
 pub mod Wholes

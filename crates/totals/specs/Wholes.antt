@@ -1,10 +1,8 @@
--- Sums over the first trees and locals, as the loops make them: parts of the definitions of statistics. Assumes nothing.
-use mathlib.Core.Path.{_≡_}
+-- Free frames and free trees of the first trees and locals, as the loops make them: parts of the definitions of statistics. Assumes nothing.
 use mathlib.Core.List.{List}
-use Prim.Native.Nat.{ℕ, _/_, _^_, _≤_}
-use native.Mathlib.Omega.{arith}
+use Prim.Native.Nat.{ℕ, _/_}
 use Rattle.rules.specs.Base.{sum}
-use Rattle.rules.specs.Words.{treeFrames, treeCount, entryAt, localAt}
+use Rattle.rules.specs.Words.{treeFrames, entryAt, localAt}
 
 -- the free of the first n entries
 unfoldable pub entriesFree : List ℕ → ℕ → ℕ

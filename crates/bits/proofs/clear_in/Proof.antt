@@ -1,4 +1,4 @@
--- The proof of clear_in. Assumes nothing.
+-- `bits::clear_in` meets its contract. Assumes nothing.
 use native.Mathlib.Omega.{arith}
 use mathlib.Core.Path.{_≡_, ap, _∙_}
 use Prim.Native.Nat.{ℕ, _*_}

@@ -1,4 +1,4 @@
--- The proof of filled. Assumes nothing.
+-- `bits::filled` meets its contract. Assumes nothing.
 use lib.Pow.{pow-pos, ones-lt}
 use Rattle.lower_laws.specs.Power.{one-shl}
 use Rattle.lower_laws.specs.Field.{mask, fill-sum, put-lt}

@@ -1,4 +1,4 @@
--- The proof of frames. Assumes nothing.
+-- `bits::frames` meets its contract. Assumes nothing.
 use native.Mathlib.Omega.{arith}
 use Rattle.lower_laws.specs.Power.{at-most}
 use borrow.Author.Needs.{needs}

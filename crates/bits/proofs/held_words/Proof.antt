@@ -1,4 +1,4 @@
--- The proof of held_words. Assumes nothing.
+-- `bits::held_words` meets its contract. Assumes nothing.
 use borrow.Author.Needs.{needs}
 use mathlib.Core.Path.{_≡_, sym}
 use Prim.Native.Nat.{_≤_, _-_, _*_, _+_, _<_, _^_}

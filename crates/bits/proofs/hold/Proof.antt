@@ -1,4 +1,4 @@
--- The proof of hold. Assumes nothing.
+-- `bits::hold` meets its contract. Assumes nothing.
 use Rattle.lower_laws.specs.Tests.{start-small, words-large}
 use Rattle.lower_laws.specs.MarkTests.{field-free, mark-part, mark-large}
 use native.Mathlib.Omega.{arith}

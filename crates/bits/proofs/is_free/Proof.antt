@@ -1,4 +1,4 @@
--- The proof of is_free. Assumes nothing.
+-- `bits::is_free` meets its contract. Assumes nothing.
 use Rattle.lower_laws.specs.Tests.{shift-lt, start-small, words-large, free-part, free-large}
 use native.Mathlib.Omega.{arith}
 use borrow.Author.Needs.{needs}

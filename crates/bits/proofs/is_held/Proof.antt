@@ -1,4 +1,4 @@
--- The proof of is_held. Assumes nothing.
+-- `bits::is_held` meets its contract. Assumes nothing.
 use Rattle.lower_laws.specs.Tests.{shift-lt, start-small, words-large, held-part-test, held-large-test}
 use Rattle.lower_laws.specs.Power.{one-shl}
 use native.Mathlib.Omega.{arith}

@@ -1,4 +1,4 @@
--- The proof of open_word. Assumes nothing.
+-- `bits::open_word` meets its contract. Assumes nothing.
 use borrow.Author.Needs.{needs}
 use native.Mathlib.Omega.{arith}
 use mathlib.Core.Path.{_≡_}

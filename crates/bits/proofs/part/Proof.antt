@@ -1,4 +1,4 @@
--- The proof of part. Assumes nothing.
+-- `bits::part` meets its contract. Assumes nothing.
 use Rattle.lower_laws.specs.Power.{one-shl}
 use lib.Pow.{pow-pos}
 use borrow.Author.Needs.{needs}

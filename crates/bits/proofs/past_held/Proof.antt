@@ -1,4 +1,4 @@
--- The proof of past_held. Assumes nothing.
+-- `bits::past_held` meets its contract. Assumes nothing.
 use Prim.Native.Nat.{_/_}
 use Rattle.lower_laws.specs.Past.{past-end, past-no, past-yes}
 use native.Mathlib.Omega.{arith}

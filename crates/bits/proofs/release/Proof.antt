@@ -1,4 +1,4 @@
--- The proof of release. Assumes nothing.
+-- `bits::release` meets its contract. Assumes nothing.
 use Rattle.lower_laws.specs.Tests.{start-small, words-large}
 use Rattle.lower_laws.specs.MarkTests.{field-held, mark-part, mark-large}
 use native.Mathlib.Omega.{arith}

@@ -1,4 +1,4 @@
--- The proof of set_words. Assumes nothing.
+-- `bits::set_words` meets its contract. Assumes nothing.
 use borrow.Author.Needs.{needs}
 use mathlib.Core.Path.{_≡_, refl}
 use Prim.Native.Nat.{_≤_, _-_}

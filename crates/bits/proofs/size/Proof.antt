@@ -1,4 +1,4 @@
--- The proof of size. Assumes nothing.
+-- `bits::size` meets its contract. Assumes nothing.
 use Rattle.lower_laws.specs.Power.{one-shl}
 use native.Mathlib.Omega.{arith}
 use borrow.Author.Needs.{needs}

@@ -1,4 +1,4 @@
--- The proof of word_free. Assumes nothing.
+-- `bits::word_free` meets its contract. Assumes nothing.
 use native.Mathlib.Omega.{arith}
 use lib.Pow.{pow-pos}
 use Rattle.lower_laws.specs.Tests.{shift-lt}

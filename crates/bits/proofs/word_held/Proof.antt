@@ -1,4 +1,4 @@
--- The proof of word_held. Assumes nothing.
+-- `bits::word_held` meets its contract. Assumes nothing.
 use native.Mathlib.Omega.{arith}
 use lib.Pow.{pow-pos}
 use Rattle.lower_laws.specs.Power.{one-shl}

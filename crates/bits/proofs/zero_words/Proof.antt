@@ -1,4 +1,4 @@
--- The proof of zero_words. Assumes nothing.
+-- `bits::zero_words` meets its contract. Assumes nothing.
 use borrow.Author.Needs.{needs}
 use mathlib.Core.Path.{_≡_, sym}
 use Prim.Native.Nat.{_≤_, _-_, _*_, _+_}

@@ -1,4 +1,4 @@
--- The proof of seek_word. Assumes nothing.
+-- `lower::seek_word` meets its contract. Assumes nothing.
 use borrow.Author.Needs.{needs}
 use native.Mathlib.Omega.{arith}
 use Rattle.lower_laws.specs.Block.{block-few, half-left, half-right}

@@ -1,4 +1,4 @@
--- The proof of find. Assumes nothing.
+-- `lower::find` meets its contract. Assumes nothing.
 use mathlib.Core.Path.{_≡_}
 use Prim.Native.Nat.{_*_, _/_}
 use native.Mathlib.Omega.{arith}

@@ -1,4 +1,4 @@
--- The proof of find_block. Assumes nothing.
+-- `lower::find_block` meets its contract. Assumes nothing.
 use native.Mathlib.Omega.{arith}
 use mathlib.Core.Path.{sym, _∙_}
 use Rattle.lower_laws.specs.Lower.{has-block, frame-block}

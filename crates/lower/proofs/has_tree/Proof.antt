@@ -1,4 +1,4 @@
--- The proof of has_tree. Assumes nothing.
+-- `lower::has_tree` meets its contract. Assumes nothing.
 use Rattle.rules.specs.Lower.{hasTree}
 use borrow.Author.Tests.{le-leb, lt-leb}
 use Rattle.lower.proofs.has_tree.Statement.{statement}

@@ -1,4 +1,4 @@
--- The proof of lower_get. Assumes nothing.
+-- `lower::lower_get` meets its contract. Assumes nothing.
 use native.Mathlib.Omega.{arith}
 use mathlib.Core.Path.{sym, _∙_}
 use Rattle.lower_laws.specs.Lower.{find-is}

@@ -1,4 +1,4 @@
--- The proof of lower_put. Assumes nothing.
+-- `lower::lower_put` meets its contract. Assumes nothing.
 use native.Mathlib.Omega.{arith}
 use mathlib.Core.Path.{sym, _∙_}
 use borrow.Author.Tests.{eqb-true}

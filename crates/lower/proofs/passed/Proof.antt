@@ -1,4 +1,4 @@
--- The proof of passed. Assumes nothing.
+-- `lower::passed` meets its contract. Assumes nothing.
 use borrow.Author.Tests.{lt-ltb, le-ltb}
 use Rattle.lower_laws.specs.Seek.{passedBy}
 use borrow.Author.Needs.{needs}

@@ -1,4 +1,4 @@
--- The proof of upward. Assumes nothing.
+-- `lower::upward` meets its contract. Assumes nothing.
 use native.Mathlib.Omega.{arith}
 use Rattle.lower_laws.specs.Open.{opened, open-none, open-found}
 use borrow.Author.Needs.{needs}
