@@ -136,4 +136,4 @@ unfolding outcomeOf
 archive-sequence h pairs free s0 s e xs P n C =
     let S = told-back 0 s _ (start-few (config h pairs) (s0 .trees) (s0 .locals) (s0 .bits) free) P in
     let D = archive-chain h pairs xs s e C in
-    (sequence h pairs free s0 s e (outcomeFrom 0) (steps xs) S refl n D, never-stuck h pairs free s0 s e (outcomeFrom 0) (steps xs) S refl n D)
+    (D, (sequence h pairs free s0 s e (outcomeFrom 0) (steps xs) S refl n D, never-stuck h pairs free s0 s e (outcomeFrom 0) (steps xs) S refl n D))

@@ -18,7 +18,7 @@ use Rattle.ways.specs.declared.Totals.{Totals}
 use Rattle.ways.specs.Promises.{Words}
 use Rattle.tallies.specs.Rows.{rowList}
 use Rattle.complete.specs.Complete.{refusalOf}
-use Rattle.sequence.specs.Demand.{Step, NoRestart, NoneStuck, Demand3}
+use Rattle.sequence.specs.Demand.{Step, Chain, NoRestart, NoneStuck, Demand3}
 use Rattle.sequence.specs.Demand as Demand
 use Rattle.numbers.specs.declared.Answer.{Answer}
 use Rattle.llfree_c.specs.declared.Figures.{Figures}
@@ -86,8 +86,9 @@ steps (x ∷ xs) = stepOf x ∷ steps xs
 
 -- ---- the statement
 
--- a start that answers 0, then any chain of the archive's calls with no further accepted start: demand 3, and no call is Stuck
+-- a start that answers 0, then any chain of the archive's calls with no further accepted start: as steps they are a chain of the exported calls' own promises, so that the
+-- outcomes are those that the numbers mean; and demand 3 holds, and no call is Stuck
 abbrev pub ArchiveSequence : Type 0
 ArchiveSequence = (h : Header) (pairs : List ℕ) (free : Bool) (s0 s e : Words) (xs : List Call)
     → StartNumber h pairs free s0 0 s → NoRestart (steps xs) → Calls h pairs xs s e
-    → Demand3 11 (h .frames) free (steps xs) e × NoneStuck (steps xs)
+    → Chain h pairs (steps xs) s e × (Demand3 11 (h .frames) free (steps xs) e × NoneStuck (steps xs))
