@@ -7,14 +7,6 @@ ghost use Rattle.rules.specs.Words.{config, configured};
 ghost use Rattle.rules.specs.Policy.{pairOf, pairFormed, accepted};
 ghost use Rattle.policy_laws.specs.Rows.{placeFits, pairCovered, covers, leadsBack, demoteCovers, cellAccepted, rowEmpty, rowAccepted};
 
-// The class has a place.
-pub fn is_configured(places: &[u8; 8], k: usize) -> bool
-    requires { ⌜ k < 8 ⌝ }
-    ensures { λ r. ⌜ r ≡ configured (now (places .entry)) k ⌝ }
-{
-    0 < words::wide(places[k])
-}
-
 // No class has more than 32 locals.
 fn places_fit(h: Header) -> bool
     ensures { λ r. ⌜ r ≡ allBelow 8 (placeFits (h .places)) ⌝ }
@@ -103,7 +95,7 @@ fn cell_accepted(h: Header, places: &[u8; 8], table: &[u32; 64], o: usize, e: us
     requires { ⌜ (now places ≡ h .places) × ((h .default < 8) × ((o < 8) × (e < 8))) ⌝ }
     ensures { λ r. ⌜ r ≡ cellAccepted (config h (now (table .entry))) o e ⌝ }
 {
-    if is_configured(places, e) {
+    if words::has_place(places, e) {
         if formed(pair_at(h, table, o, e)) {
             if leads_back(h, table, o, e) {
                 return demote_covers(h, table, o, e);
@@ -149,7 +141,7 @@ fn row_accepted(h: Header, places: &[u8; 8], table: &[u32; 64], o: usize) -> boo
     requires { ⌜ (now places ≡ h .places) × ((h .default < 8) × (o < 8)) ⌝ }
     ensures { λ r. ⌜ r ≡ rowAccepted (config h (now (table .entry))) o ⌝ }
 {
-    if is_configured(places, o) {
+    if words::has_place(places, o) {
         if 2 <= words::kind_at(h, table, o, o) {
             return cells_accepted(h, places, table, o);
         }
@@ -186,7 +178,7 @@ pub fn accepts(h: Header, table: &[u32; 64]) -> bool
     let places = h.places;
     if places_fit(h) {
         if h.default < 8 {
-            if is_configured(&places, h.default) {
+            if words::has_place(&places, h.default) {
                 return rows_accepted(h, &places, table);
             }
             return false;

@@ -9,7 +9,7 @@ use Rattle.ways.specs.declared.Tally.{Tally}
 use Rattle.ways.specs.declared.Totals.{Totals}
 use Rattle.ways.specs.Calls.{outcomeOf}
 use Rattle.tallies.specs.declared.Rows.{Rows}
-use Rattle.statistics.specs.declared.Report.{Report}
+use Rattle.tells.specs.declared.Stats.{Stats}
 
 -- the answer to a start, a put or a drain
 unfoldable pub outcomeText : List ℕ → Outcome → List ℕ
@@ -37,7 +37,7 @@ rowsIf false r = []
 unfoldable pub totalsText : Totals → List ℕ
 totalsText t = say "stats " ++ nameAt (outcomeOf (t .outcome)) ++ field " free " (t .free) ++ field " trees " (t .trees) ++ end
 
-unfoldable pub statsText : Report → List ℕ
+unfoldable pub statsText : Stats → List ℕ
 statsText r = totalsText (r .totals) ++ rowsIf (r .done) (r .rows)
 
 -- the answer to a line that is no command

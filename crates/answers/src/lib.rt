@@ -1,6 +1,6 @@
 // The answers to start, put, drain and statistics, and to lines that are no command, written into a buffer.
-use statistics::Report;
 use tallies::Rows;
+use tells::Stats;
 use ways::Outcome;
 use ways::Tally;
 use ways::Totals;
@@ -55,7 +55,7 @@ fn totals(out: &mut [u8], at: usize, t: Totals) -> usize
 }
 
 // The answer to statistics: the rows follow where they are filled.
-pub fn stats(out: &mut [u8], at: usize, told: Report) -> usize
+pub fn stats(out: &mut [u8], at: usize, told: Stats) -> usize
     ensures { λ r. ⌜ text (now (out .exit)) r ≡ write (text (now (out .entry)) at) (statsText told) ⌝ }
 {
     let t = told.totals;

@@ -87,14 +87,6 @@ fn rated_of(w: u32, walk: Walk, free: usize) -> usize
     rated_in(walk, free == 2048, kind)
 }
 
-// The frames of an order.
-pub fn size(order: usize) -> usize
-    requires { ⌜ order ≤ 11 ⌝ }
-    ensures { λ r. ⌜ r ≡ 2 ^ order ⌝ }
-{
-    1usize << order
-}
-
 // The rating of a tree in a walk: 0 where it is reserved or has too little free.
 pub fn rate(h: Header, table: &[u32; 64], q: Request, walk: Walk, e: Tree) -> usize
     requires { ⌜ (q .order ≤ 11) × ((q .class < 8) × (e .class < 8)) ⌝ }
@@ -103,7 +95,7 @@ pub fn rate(h: Header, table: &[u32; 64], q: Request, walk: Walk, e: Tree) -> us
     if e.reserved {
         return 0;
     }
-    if e.free < size(q.order) {
+    if e.free < bits::size(q.order) {
         return 0;
     }
     rated_of(table[q.class * 8 + e.class], walk, e.free)

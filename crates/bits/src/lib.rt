@@ -8,7 +8,7 @@ ghost use Rattle.rules.specs.Lower.{putField, mark, setWords, held, heldIn, cle
 ghost use Rattle.lower_laws.specs.Block.{Block};
 ghost use Rattle.lower_laws.specs.Open.{openFrom};
 ghost use Rattle.lower_laws.specs.Word.{word};
-ghost use Rattle.lower_laws.specs.Trailing.{lowestClear};
+ghost use Rattle.lower_laws.specs.LowestClear.{lowestClear};
 
 // 2^order.
 pub fn size(order: usize) -> usize
@@ -134,7 +134,7 @@ pub fn word_held(w: u64, order: usize, block: usize) -> bool
 }
 
 // The lowest clear bit of a word; 64 where there is none.
-pub fn first_clear(w: u64) -> usize
+pub fn lowest_clear(w: u64) -> usize
     ensures { λ r. ⌜ r ≡ lowestClear 64 w ⌝ }
 {
     u64::trailing_zeros(0xffff_ffff_ffff_ffff - w) as usize

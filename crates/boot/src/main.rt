@@ -159,7 +159,7 @@ fn figures<'a>(
     locals: &'a [u64],
     bits: &'a [u64],
 ) {
-    let report = statistics::tell(h, table, trees, locals, bits, 8);
+    let report = tells::tell(h, table, trees, locals, bits, 8);
     says::figures(h.frames, report);
 }
 

@@ -77,7 +77,7 @@ fn stats<'a>(
     out: &mut [u8],
     at: usize,
 ) -> usize {
-    let told = statistics::tell(h, table, trees, locals, bits, rows);
+    let told = tells::tell(h, table, trees, locals, bits, rows);
     answers::stats(out, at, told)
 }
 

@@ -25,7 +25,7 @@ use Rattle.step_laws.specs.Steps.{ifte-ind}
 use Rattle.step_laws.specs.Checked.{refusal-range}
 use Rattle.step_laws.specs.Answers.{unless-ind, standing-ind}
 use Rattle.tallies.specs.Rows.{rows-tallies}
-use Rattle.statistics.specs.Report.{reportOf}
+use Rattle.tells.specs.Stats.{statsOf}
 use Rattle.complete.specs.Complete.{refusalOf, number-back}
 use Rattle.sequence.specs.Demand.{Promised, Chain}
 use Rattle.sequence.specs.Sequence.{sequence, never-stuck}
@@ -104,8 +104,8 @@ granted-back (suc n) f k s (inr (h, (p, q))) =
 
 -- ---- statistics by value are the statistics of rows of zeros
 figures-by : (c : Config) (ts ls bs : List ℕ) (n : ℕ) (u v : Bool) → standing c ts ls bs ≡ u → eqb n 8 ≡ v
-    → toldTotals (totalsFrom (figuresOf (reportOf c ts ls bs n))) (rowsFrom n (figuresOf (reportOf c ts ls bs n))) ≡ statistics c ts ls bs (emptyRows n)
-unfolding reportOf statistics ifte outcomeOf numberOf refusalOf
+    → toldTotals (totalsFrom (figuresOf (statsOf c ts ls bs n))) (rowsFrom n (figuresOf (statsOf c ts ls bs n))) ≡ statistics c ts ls bs (emptyRows n)
+unfolding statsOf statistics ifte outcomeOf numberOf refusalOf
 figures-by c ts ls bs n true true p q = rw (length-replicate, p, q) (ap (reporting 0 (totalFree c ts ls) (freeTrees c ts ls)) (rows-tallies c ts ls))
 figures-by c ts ls bs n true false p q = rw (length-replicate, p, q)
 figures-by c ts ls bs n false v p q = rw p

@@ -25,8 +25,8 @@ unfoldable pub holdsTree : ℕ → Local → ℕ → Bool
 holdsTree z l t = both (l .present) (eqb t (treeOn z l))
 
 -- the tree of each present local has a mark's place
-abbrev pub Inside : ℕ → List ℕ → Type 0
-Inside z ls = (j : ℕ) → j < length ls → localAt ls j .present ≡ true → treeOn z (localAt ls j) < 1024
+abbrev pub OnTrees : ℕ → List ℕ → Type 0
+OnTrees z ls = (j : ℕ) → j < length ls → localAt ls j .present ≡ true → treeOn z (localAt ls j) < 1024
 
 -- the trees that the first j locals hold are marked, and no others
 pub record Marks (z : ℕ) (ls : List ℕ) (j : ℕ) (ms : List ℕ) : Type 0 where

@@ -4,11 +4,11 @@ ghost use Prim.Native.Nat.{_≤_};
 ghost use lib.ListN.{length};
 ghost use Rattle.rules.specs.Base.{bitOf, allBelow};
 ghost use Rattle.ways.specs.Standing.{apartBefore, reservedCount, presentCount};
-ghost use Rattle.holders.specs.Apart.{Inside};
+ghost use Rattle.holders.specs.Apart.{OnTrees};
 
 // Distinct locals hold distinct trees: the tree of each present local is marked, and was not marked before.
 pub fn apart(locals: &[u64]) -> bool
-    requires { ⌜ Inside 11 (now locals) ⌝ }
+    requires { ⌜ OnTrees 11 (now locals) ⌝ }
     ensures { λ r. ⌜ r ≡ allBelow (length (now (locals .entry))) (apartBefore 11 (now (locals .entry))) ⌝ }
 {
     let mut marks = [0u64; 16];

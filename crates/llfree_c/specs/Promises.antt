@@ -11,7 +11,7 @@ use Rattle.rules.specs.declared.Request.{Request}
 use Rattle.ways.specs.State.{st}
 use Rattle.ways.specs.Calls.{telling, fresh, start, get, put, drain}
 use Rattle.ways.specs.Promises.{Words}
-use Rattle.statistics.specs.Report.{reportOf}
+use Rattle.tells.specs.Stats.{statsOf}
 use Rattle.numbers.specs.declared.Answer.{Answer}
 use Rattle.llfree_c.specs.declared.Figures.{Figures}
 use Rattle.llfree_c.specs.Figures.{figuresOf}
@@ -35,4 +35,4 @@ DrainNumber h pairs s r e = telling r 0 0 (fresh (e .trees) (e .locals) (e .bits
 
 -- where so many tally rows are to be filled: the rows come by value
 abbrev pub FiguresAnswer : Header → List ℕ → Words → ℕ → Figures → Type 0
-FiguresAnswer h pairs s n r = r ≡ figuresOf (reportOf (config h pairs) (s .trees) (s .locals) (s .bits) n)
+FiguresAnswer h pairs s n r = r ≡ figuresOf (statsOf (config h pairs) (s .trees) (s .locals) (s .bits) n)

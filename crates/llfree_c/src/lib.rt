@@ -137,7 +137,7 @@ pub extern "C" fn llfree_figures<'a>(
 ) -> Figures
     ensures { λ r. ⌜ FiguresAnswer h (now (table .entry)) (words (now (trees .entry)) (now (locals .entry)) (now (bits .entry))) rows r ⌝ }
 {
-    let told = statistics::tell(h, table, trees, locals, bits, rows);
+    let told = tells::tell(h, table, trees, locals, bits, rows);
     let totals = told.totals;
     let outcome = totals.outcome;
     let all = told.rows;

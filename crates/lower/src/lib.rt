@@ -37,7 +37,7 @@ fn first_block(w: u64, want: usize) -> usize
     requires { ⌜ want < 6 ⌝ }
     ensures { λ r. ⌜ r ≡ wordSeek w 6 want 0 ⌝ }
 {
-    let bit = bits::first_clear(w);
+    let bit = bits::lowest_clear(w);
     if bit < 64 {
         let block = bit >> want;
         if bits::word_free(w, want, block) {

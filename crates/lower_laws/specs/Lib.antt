@@ -14,7 +14,7 @@ pub mod MarkTests
 pub mod First
 pub mod Seek
 pub mod Word
-pub mod Trailing
+pub mod LowestClear
 pub mod Open
 pub mod Clear
 pub mod Search

@@ -127,7 +127,7 @@ fn seven_rows<'a>(
     locals: &'a [u64],
     bits: &'a [u64],
 ) {
-    let report = statistics::tell(h, table, trees, locals, bits, 7);
+    let report = tells::tell(h, table, trees, locals, bits, 7);
     let totals = report.totals;
     let outcome = totals.outcome;
     says::outcome(b"statistics with seven rows", outcome);

@@ -13,16 +13,6 @@ ghost use Rattle.ways.specs.State.{st, ended};
 ghost use Rattle.ways.specs.Walk.{reserved};
 ghost use Rattle.ways.specs.Fits.{Fits};
 
-// a less b, 0 where b is more.
-fn less(a: usize, b: usize) -> usize
-    ensures { λ r. ⌜ r ≡ a - b ⌝ }
-{
-    if a < b {
-        return 0;
-    }
-    a - b
-}
-
 // A reservation of tree t, at its first row.
 fn reservation(t: usize, free: usize) -> Local
     requires { ⌜ t < 2 ^ 53 ⌝ }
@@ -56,7 +46,7 @@ pub fn reserved(
 {
     match lower::lower_get(bits, t * 32, q.order, Name::Any) {
         Found::At(f) => {
-            let free = less(old as usize, bits::frames(q.order) as usize);
+            let free = words::less(old as usize, bits::frames(q.order) as usize);
             let l = local::swap(locals, j, reservation(t, free));
             if steps::unreserve_local(h, table, trees, q.class, l) {
                 return ends::done(f, q.class, looks, tries + 1);

@@ -39,7 +39,8 @@ fn main() {
     let mut turns = u64::MAX;
     let mut held = stores::begun();
     let mut r = inputs::begun();
-    loop {
+    while 0 < turns {
+        turns -= 1;
         let e = inputs::end_of(&buf, r);
         if e < r.have {
             let c = inputs::command(&buf, r, e);
@@ -55,19 +56,11 @@ fn main() {
             );
             held = stores::after(held, c);
             r = inputs::past(r, e, to);
-            if turns == 0 {
+        } else {
+            r = inputs::more(&mut buf, r, &mut out);
+            if r.done {
                 return;
             }
-            turns -= 1;
-            continue;
         }
-        r = inputs::more(&mut buf, r, &mut out);
-        if r.done {
-            return;
-        }
-        if turns == 0 {
-            return;
-        }
-        turns -= 1;
     }
 }

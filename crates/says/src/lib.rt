@@ -1,6 +1,6 @@
 // What the loader says: a line for each answer, the figures, and what it does on each refusal.
 use patterns::Pattern;
-use statistics::Report;
+use tells::Stats;
 use ways::Granted;
 use ways::Outcome;
 use ways::Reply;
@@ -134,7 +134,7 @@ fn all_free(free: usize, frames: usize) {
 }
 
 // The answer to statistics on a board of so many frames, with the rows of its two classes.
-pub fn figures(frames: usize, report: Report) {
+pub fn figures(frames: usize, report: Stats) {
     let t = report.totals;
     let outcome = t.outcome;
     answered(b"statistics", numbers::number(outcome));

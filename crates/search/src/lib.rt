@@ -1,6 +1,7 @@
 // llfree.rs: the reserving search and the stealing search.
 use rules::Header;
 use rules::Request;
+use walk::Path;
 use ways::Routed;
 use ways::Walk;
 ghost use mathlib.Core.Path.{_≡_};
@@ -30,7 +31,14 @@ fn search_far(
         ≡ searchFar (config h (now (table .entry))) q j start (st (now (trees .entry)) (now (locals .entry)) (now (bits .entry)) looks tries))
         × ((r .looks ≤ looks + 1024) × (r .tries ≤ tries + 1032)) ⌝ }
 {
-    let n = spans::count(h.frames);
+    let n = spans::tree_count(h.frames);
+    let p = Path {
+        m: 8,
+        n: n,
+        start: start,
+        first: 0,
+        last: n,
+    };
     walk::search_best(
         h,
         table,
@@ -40,11 +48,7 @@ fn search_far(
         q,
         Walk::Far,
         j,
-        8,
-        n,
-        start,
-        0,
-        n,
+        p,
         looks,
         tries,
     )
@@ -69,8 +73,15 @@ fn search_near(
         (st (now (trees .entry)) (now (locals .entry)) (now (bits .entry)) looks tries))
         × ((r .looks ≤ looks + 64) × (r .tries ≤ tries + 67)) ⌝ }
 {
-    let n = spans::count(h.frames);
+    let n = spans::tree_count(h.frames);
     let last = spans::near(n);
+    let p = Path {
+        m: 3,
+        n: n,
+        start: start,
+        first: 1,
+        last: last,
+    };
     walk::search_best(
         h,
         table,
@@ -80,11 +91,7 @@ fn search_near(
         q,
         Walk::Near,
         j,
-        3,
-        n,
-        start,
-        1,
-        last,
+        p,
         looks,
         tries,
     )
@@ -137,7 +144,7 @@ pub fn search_and_reserve(
         ≡ searchAndReserve (config h (now (table .entry))) q j start (st (now (trees .entry)) (now (locals .entry)) (now (bits .entry)) looks tries))
         × ((r .looks ≤ looks + 2048) × (r .tries ≤ tries + 2048)) ⌝ }
 {
-    let n = spans::count(h.frames);
+    let n = spans::tree_count(h.frames);
     let from = spans::rounded_start(n, start);
     search_from(h, table, trees, locals, bits, q, j, from, looks, tries)
 }
@@ -159,7 +166,14 @@ pub fn search_and_steal(
         ≡ searchAndSteal (config h (now (table .entry))) q start (st (now (trees .entry)) (now (locals .entry)) (now (bits .entry)) looks tries))
         × ((r .looks ≤ looks + 2048) × (r .tries ≤ tries + 2048)) ⌝ }
 {
-    let n = spans::count(h.frames);
+    let n = spans::tree_count(h.frames);
+    let p = Path {
+        m: 8,
+        n: n,
+        start: start,
+        first: 0,
+        last: n,
+    };
     walk::search_best(
         h,
         table,
@@ -169,11 +183,7 @@ pub fn search_and_steal(
         q,
         Walk::Stealing,
         0,
-        8,
-        n,
-        start,
-        0,
-        n,
+        p,
         looks,
         tries,
     )

@@ -4,8 +4,8 @@ ghost use Prim.Native.Nat.{_^_, _<_, _≤_};
 ghost use Rattle.rules.specs.Words.{treeCount};
 ghost use Rattle.ways.specs.Search.{near, roundedStart};
 
-// The number of trees, 1 to 1,024.
-pub fn count(frames: usize) -> usize
+// The number of trees of frames that a header may name: 1 to 1,024.
+pub fn tree_count(frames: usize) -> usize
     requires { ⌜ (0 < frames) × (frames ≤ 2 ^ 21) ⌝ }
     ensures { λ r. ⌜ (r ≡ treeCount 11 frames) × ((0 < r) × (r ≤ 1024)) ⌝ }
 {
@@ -28,7 +28,7 @@ pub fn rounded_start(n: usize, start: usize) -> usize
     let least = 2 * near(n);
     let mut e: usize = 0;
     while e < 8 {
-        if least <= best::size(e) {
+        if least <= bits::size(e) {
             return (start >> e) << e;
         }
         e += 1;

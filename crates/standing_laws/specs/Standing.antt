@@ -22,7 +22,7 @@ use Rattle.policy_laws.specs.Kinds.{configured-fact, configured-true}
 use Rattle.word_laws.specs.Sizes.{Size}
 use Rattle.word_laws.specs.Sums.{sum-tight}
 use Rattle.word_laws.specs.Words.{present-lt, bit-true}
-use Rattle.word_laws.specs.Slots.{place-of}
+use Rattle.word_laws.specs.Slots.{slot-of}
 use Rattle.hand.specs.Hand.{shares, holders, Kept}
 use Rattle.keeps_calls.specs.Calls.{start-keeps}
 use Rattle.standing_laws.specs.Holders.{holders-all, none-on, on-none, only-on, one-on, find-on}
@@ -44,7 +44,7 @@ module _ (c : Config) (sz : Size (c .order)) (ts ls bs : List ℕ) where
         → (treeOn (c .order) (localAt ls j) < trees c) × ((entryAt ts (treeOn (c .order) (localAt ls j)) .reserved ≡ true)
         × (entryAt ts (treeOn (c .order) (localAt ls j)) .free + localAt ls j .free ≡ clear (c .order) bs (treeOn (c .order) (localAt ls j))))
     holder-at j lt p =
-        let L = place-of (c .places) j lt in
+        let L = slot-of (c .places) j lt in
         subst
         (λ (x : ℕ). localAt ls x .present ≡ true → (treeOn (c .order) (localAt ls x) < trees c) × ((entryAt ts (treeOn (c .order) (localAt ls x)) .reserved ≡ true)
         × (entryAt ts (treeOn (c .order) (localAt ls x)) .free + localAt ls x .free ≡ clear (c .order) bs (treeOn (c .order) (localAt ls x)))))
@@ -54,7 +54,7 @@ module _ (c : Config) (sz : Size (c .order)) (ts ls bs : List ℕ) where
 
     absent-at : (j : ℕ) → j < localCount (c .places) → localAt ls j .present ≡ false → getD ls j 0 ≡ 0
     absent-at j lt p =
-        let L = place-of (c .places) j lt in
+        let L = slot-of (c .places) j lt in
         subst (λ (x : ℕ). localAt ls x .present ≡ false → getD ls x 0 ≡ 0) (L .is) (P .absent (L .class) (L .index) (L .classLt) (L .indexLt)) p
 
     here-lt : (j : ℕ) → localAt ls j .present ≡ true → j < localCount (c .places)

@@ -13,8 +13,8 @@ use Rattle.rules.specs.declared.Header.{Header}
 use Rattle.ways.specs.Standing.{treeOn, lengthsExact, holderStands, localStands, classStands}
 use Rattle.policy_laws.specs.All.{both-left, all-at}
 use Rattle.step_laws.specs.Tested.{lengths-say}
-use Rattle.holders.specs.Apart.{Inside}
-use Rattle.word_laws.specs.Slots.{Place, place-of}
+use Rattle.holders.specs.Apart.{OnTrees}
+use Rattle.word_laws.specs.Slots.{SlotOf, slot-of}
 use Rattle.policy_laws.specs.Accepted.{accepted-says}
 
 -- every tree of the configuration has an entry and its bitmap words
@@ -43,7 +43,7 @@ module _ (c : Config) where
     unfolding classStands localStands holderStands
     locals-inside a h e j l p =
         let n : length ls ≡ localCount (c .places) = locals-say h in
-        let s : Place (c .places) j = place-of (c .places) j (omega arith) in
+        let s : SlotOf (c .places) j = slot-of (c .places) j (omega arith) in
         let f : localStands c ts ls bs (s .class) (slot (c .places) (s .class) (s .index)) ≡ true
         = all-at (localsOf (c .places) (s .class)) _ (all-at 8 (classStands c ts ls bs) e (s .class) (s .classLt)) (s .index) (s .indexLt) in
         let g : localStands c ts ls bs (s .class) j ≡ true = subst (λ (x : ℕ). localStands c ts ls bs (s .class) x ≡ true) (s .is) f in
@@ -51,7 +51,7 @@ module _ (c : Config) where
 
 -- so its tree is below 1,024
 pub inside-few : (h : Header) (pairs ts ls bs : List ℕ) → accepted (config h pairs) ≡ true → lengthsExact (config h pairs) ts ls bs ≡ true
-    → allBelow 8 (classStands (config h pairs) ts ls bs) ≡ true → Inside 11 ls
+    → allBelow 8 (classStands (config h pairs) ts ls bs) ≡ true → OnTrees 11 ls
 unfolding treeCount
 inside-few h pairs ts ls bs a l e j b p =
     let m : h .frames ≤ 1024 * 2 ^ 11 = frames-most (config h pairs) a in

@@ -44,7 +44,7 @@ fn entry_stands(
 {
     let e = trees::load(trees, t);
     if e.free <= 2048 {
-        if accept::is_configured(places, e.class) {
+        if words::has_place(places, e.class) {
             if e.reserved {
                 return true;
             }
@@ -117,15 +117,6 @@ fn local_stands(
     local::word(locals, j) == 0
 }
 
-// The number of locals of a class.
-fn locals_in(places: &[u8; 8], class: usize) -> usize
-    requires { ⌜ class < 8 ⌝ }
-    ensures { λ r. ⌜ (r ≡ localsOf (now (places .entry)) class) × (r < 256) ⌝ }
-{
-    let place = words::wide(places[class]);
-    if 0 < place { place - 1 } else { 0 }
-}
-
 // The locals of a class, from its first place on.
 fn class_stands(
     h: Header,
@@ -160,7 +151,7 @@ fn locals_stand(h: Header, table: &[u32; 64], trees: &[u32], locals: &[u64], bit
     let mut first: usize = 0;
     let mut class: usize = 0;
     while class < 8 {
-        let len = locals_in(&places, class);
+        let len = words::locals_in(&places, class);
         if !class_stands(h, table, trees, locals, bits, class, first, len) {
             return false;
         }

@@ -62,6 +62,18 @@ fn held_length(n: Length) -> usize {
     }
 }
 
+// The store with other lengths lent.
+fn lent(held: Held, trees: Length, locals: Length, bits: Length) -> Held {
+    let h = held.h;
+    Held {
+        h: h,
+        trees: held_length(trees),
+        locals: held_length(locals),
+        bits: held_length(bits),
+        rows: held.rows,
+    }
+}
+
 // A set-up line.
 fn set(held: Held, s: Setting) -> Held {
     let h = held.h;
@@ -88,13 +100,7 @@ fn set(held: Held, s: Setting) -> Held {
             trees,
             locals,
             bits,
-        } => Held {
-            h: h,
-            trees: held_length(trees),
-            locals: held_length(locals),
-            bits: held_length(bits),
-            rows: held.rows,
-        },
+        } => lent(held, trees, locals, bits),
         Setting::Rows(r) => Held {
             h: h,
             trees: held.trees,

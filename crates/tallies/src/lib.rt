@@ -85,13 +85,6 @@ fn reserved_by_class(trees: &[u32], locals: &[u64], n: usize) -> [usize; 8]
     free
 }
 
-// A number less another, 0 where that is more.
-fn less(a: usize, b: usize) -> usize
-    ensures { λ r. ⌜ r ≡ a - b ⌝ }
-{
-    if b < a { a - b } else { 0 }
-}
-
 // The row of a class, of the entries by class, the free of the class's locals, and the free of the reservations by class.
 fn row(e: Entries, more: usize, reserved: [usize; 8], class: usize) -> Tally
     requires { ⌜ (class < 8) × ((getD (e .free) class 0 < 2 ^ 40) × ((getD (e .trees) class 0 < 2 ^ 40) × (more < 2 ^ 60))) ⌝ }
@@ -103,7 +96,10 @@ fn row(e: Entries, more: usize, reserved: [usize; 8], class: usize) -> Tally
     Tally {
         free: free[class] + more,
         alloc: alloc[class],
-        used: less(less(2048 * trees[class], free[class]), reserved[class]),
+        used: words::less(
+            words::less(2048 * trees[class], free[class]),
+            reserved[class],
+        ),
     }
 }
 

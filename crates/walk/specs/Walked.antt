@@ -14,6 +14,9 @@ use Rattle.ways.specs.declared.Got.{Got}
 use Rattle.ways.specs.declared.Got.the-variants as Got
 use Rattle.ways.specs.declared.Walk.{Walk}
 use Rattle.ways.specs.State.{State, st, withLook}
+use Rattle.best.specs.List.{listOf}
+use Rattle.walk.specs.declared.Path.{Path}
+use Rattle.walk.specs.declared.Stand.{Stand}
 use Rattle.ends.specs.Ends.{ends, sight-ends, sight-goes}
 use Rattle.ways.specs.Walk.{Candidate, Sight, sight, place, isFull, rate, admit, access, tried, offered, visit, onSight, walkSteps, walk}
 
@@ -68,3 +71,9 @@ pub record Walked (c : Config) (q : Request) (w : Walk) (m n start i last : ℕ)
   pub low : i ≤ k
   pub high : k ≤ i + (last - i)
   pub most : seen ≤ looks + (k - i)
+
+-- a walk p went on from step i: as far as a tree that is tried at once (Match 255), or to its last step
+abbrev pub WalkedOn : Config → Request → Walk → Path → List ℕ → ℕ → List Candidate → ℕ → Stand → Type 0
+WalkedOn c q w p ts i xs looks r =
+    Walked c q w (p .m) (p .n) (p .start) i (p .last) xs ts looks (r .at) (listOf (p .m) (r .best)) (r .looks)
+    × (r .at < p .last → rate c q w (entryAt ts (place (p .n) (p .start) (r .at))) ≡ 258)

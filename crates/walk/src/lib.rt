@@ -6,19 +6,20 @@ use ways::Walk;
 ghost use mathlib.Core.Path.{_≡_};
 ghost use lib.Dec.{eqb};
 ghost use Prim.Native.Nat.{_+_, _^_, _<_, _≤_};
-ghost use Rattle.rules.specs.Words.{config, entryAt};
+ghost use Rattle.rules.specs.Words.{config};
 ghost use Rattle.ways.specs.State.{st, ended};
-ghost use Rattle.ways.specs.Walk.{place, rate, tryList, searchBest};
+ghost use Rattle.ways.specs.Walk.{tryList, searchBest};
 ghost use Rattle.ways.specs.Fits.{Fits};
 ghost use Rattle.best.specs.List.{listOf};
-ghost use Rattle.walk.specs.Walked.{Walked, enlisted};
+ghost use Rattle.walk.specs.Walked.{enlisted, WalkedOn};
 
-// A walk: the length of its list, the number of trees, the start, the last step.
-struct Path {
-    m: usize,
-    n: usize,
-    start: usize,
-    last: usize,
+// A walk: the length of its list, the number of trees, the start, the steps from the first up to the last.
+pub struct Path {
+    pub m: usize,
+    pub n: usize,
+    pub start: usize,
+    pub first: usize,
+    pub last: usize,
 }
 
 // Where a walk stands: the step, the list of the best, the looks.
@@ -52,9 +53,7 @@ fn walk_on(
     looks: usize,
 ) -> Stand
     requires { ⌜ Fits h q × ((p .m ≤ 8) × (((0 < p .n) × (p .n ≤ 1024)) × ((p .start < 2 ^ 44) × ((p .last ≤ 1024) × (looks < 2 ^ 31))))) ⌝ }
-    ensures { λ r. ⌜ Walked (config h (now (table .entry))) q w (p .m) (p .n) (p .start) i (p .last) (listOf (p .m) best) (now (trees .entry)) looks
-        (r .at) (listOf (p .m) (r .best)) (r .looks)
-        × (r .at < p .last → rate (config h (now (table .entry))) q w (entryAt (now (trees .entry)) (place (p .n) (p .start) (r .at))) ≡ 258) ⌝ }
+    ensures { λ r. ⌜ WalkedOn (config h (now (table .entry))) q w p (now (trees .entry)) i (listOf (p .m) best) looks r ⌝ }
 {
     let mut list = best;
     let mut seen = looks;
@@ -131,29 +130,19 @@ pub fn search_best(
     q: Request,
     w: Walk,
     j: usize,
-    m: usize,
-    n: usize,
-    start: usize,
-    first: usize,
-    last: usize,
+    p: Path,
     looks: usize,
     tries: usize,
 ) -> Routed
-    requires { ⌜ Fits h q × ((m ≤ 8) × (((0 < n) × (n ≤ 1024)) × ((start < 2 ^ 44) × ((last ≤ 1024) × ((looks < 2 ^ 30) × (tries < 2 ^ 30)))))) ⌝ }
+    requires { ⌜ Fits h q × ((p .m ≤ 8) × (((0 < p .n) × (p .n ≤ 1024)) × ((p .start < 2 ^ 44) × ((p .last ≤ 1024) × ((looks < 2 ^ 30) × (tries < 2 ^ 30)))))) ⌝ }
     ensures { λ r. ⌜ (ended r (now (trees .exit)) (now (locals .exit)) (now (bits .exit))
-        ≡ searchBest (config h (now (table .entry))) q w j m n start first last (st (now (trees .entry)) (now (locals .entry)) (now (bits .entry)) looks tries))
-        × ((r .looks ≤ looks + last) × (r .tries ≤ tries + (last + m))) ⌝ }
+        ≡ searchBest (config h (now (table .entry))) q w j (p .m) (p .n) (p .start) (p .first) (p .last) (st (now (trees .entry)) (now (locals .entry)) (now (bits .entry)) looks tries))
+        × ((r .looks ≤ looks + p .last) × (r .tries ≤ tries + (p .last + p .m))) ⌝ }
 {
-    let p = Path {
-        m: m,
-        n: n,
-        start: start,
-        last: last,
-    };
     let mut asked = tries;
-    let mut s = walk_on(h, table, trees, q, w, p, first, [0; 8], looks);
-    while s.at < last {
-        let t = best::place(n, start, s.at);
+    let mut s = walk_on(h, table, trees, q, w, p, p.first, [0; 8], looks);
+    while s.at < p.last {
+        let t = best::place(p.n, p.start, s.at);
         let seen = s.looks + 1;
         let a = steal::access(h, table, trees, locals, bits, q, w, j, t, seen, asked);
         let got = a.got;
@@ -167,5 +156,18 @@ pub fn search_best(
     }
     let list = s.best;
     let seen = s.looks;
-    try_list(h, table, trees, locals, bits, q, w, j, m, list, seen, asked)
+    try_list(
+        h,
+        table,
+        trees,
+        locals,
+        bits,
+        q,
+        w,
+        j,
+        p.m,
+        list,
+        seen,
+        asked,
+    )
 }

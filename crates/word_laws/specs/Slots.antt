@@ -10,8 +10,8 @@ use Rattle.rules.specs.Words.{localsOf, slot, localCount}
 use Rattle.lower_laws.specs.Cases.{neither-below}
 use Rattle.word_laws.specs.Sums.{sum-prefix}
 
--- the place j is that of index i of class k
-pub record Place (ps : List ℕ) (j : ℕ) : Type 0 where
+-- the slot j is that of a class and an index
+pub record SlotOf (ps : List ℕ) (j : ℕ) : Type 0 where
   pub class : ℕ
   pub index : ℕ
   pub classLt : class < 8
@@ -32,12 +32,12 @@ module _ (ps : List ℕ) where
       omega (arith, a, next (localsOf ps) k)
 
   -- each place has a class and an index
-  find : (m j : ℕ) → m ≤ 8 → j < sum (localsOf ps) 0 m → Place ps j
+  find : (m j : ℕ) → m ≤ 8 → j < sum (localsOf ps) 0 m → SlotOf ps j
   unfolding slot sum
   find zero j h l = absurd (not-suc-le-zero l)
   find (suc m) j h l = go (decLt j (sum (localsOf ps) 0 m)) (find m j (omega arith))
     where
-      go : Dec (j < sum (localsOf ps) 0 m) → (j < sum (localsOf ps) 0 m → Place ps j) → Place ps j
+      go : Dec (j < sum (localsOf ps) 0 m) → (j < sum (localsOf ps) 0 m → SlotOf ps j) → SlotOf ps j
       go (yes q) k = k q
       go (no q) k =
           record {
@@ -48,9 +48,9 @@ module _ (ps : List ℕ) where
             is = omega arith;
           }
 
-  pub place-of : (j : ℕ) → j < localCount ps → Place ps j
+  pub slot-of : (j : ℕ) → j < localCount ps → SlotOf ps j
   unfolding localCount
-  place-of j l = find 8 j (omega arith) l
+  slot-of j l = find 8 j (omega arith) l
 
   -- and only one
   before : (k i m x : ℕ) → k < m → i < localsOf ps k → slot ps k i < slot ps m x

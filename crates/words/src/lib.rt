@@ -4,7 +4,7 @@ use rules::Kind;
 use rules::Local;
 use rules::Tree;
 ghost use mathlib.Core.Path.{_≡_};
-ghost use Prim.Native.Nat.{_^_, _<_, _≤_};
+ghost use Prim.Native.Nat.{_^_, _-_, _<_, _≤_};
 ghost use Rattle.rules.specs.Base.{sum};
 ghost use Rattle.rules.specs.Words.{config, treeCount, configured, localsOf, slot, localCount, treeOf, treeWord, localOf, localWord};
 ghost use Rattle.rules.specs.Policy.{policyOf, policy, kindAt};
@@ -99,12 +99,36 @@ pub fn wide(x: u8) -> usize
     x as usize
 }
 
+// One number less another, but no less than 0.
+pub fn less(a: usize, b: usize) -> usize
+    ensures { λ r. ⌜ r ≡ a - b ⌝ }
+{
+    if b < a { a - b } else { 0 }
+}
+
+// Whether a class is configured: lent places, so that none are copied.
+pub fn has_place(places: &[u8; 8], class: usize) -> bool
+    requires { ⌜ class < 8 ⌝ }
+    ensures { λ r. ⌜ r ≡ configured (now (places .entry)) class ⌝ }
+{
+    0 < wide(places[class])
+}
+
+// The number of locals of a class, by lent places.
+pub fn locals_in(places: &[u8; 8], class: usize) -> usize
+    requires { ⌜ class < 8 ⌝ }
+    ensures { λ r. ⌜ (r ≡ localsOf (now (places .entry)) class) × (r < 256) ⌝ }
+{
+    less(wide(places[class]), 1)
+}
+
 // Whether a class is configured.
 pub fn is_configured(h: Header, class: usize) -> bool
     requires { ⌜ class < 8 ⌝ }
     ensures { λ r. ⌜ r ≡ configured (h .places) class ⌝ }
 {
-    0 < wide(h.places[class])
+    let places = h.places;
+    has_place(&places, class)
 }
 
 // The number of locals of a class.
@@ -112,8 +136,8 @@ pub fn locals_of(h: Header, class: usize) -> usize
     requires { ⌜ class < 8 ⌝ }
     ensures { λ r. ⌜ (r ≡ localsOf (h .places) class) × (r < 256) ⌝ }
 {
-    let place = wide(h.places[class]);
-    if 0 < place { place - 1 } else { 0 }
+    let places = h.places;
+    locals_in(&places, class)
 }
 
 // The place of a class's first local in the lent words: as many locals stand before it.

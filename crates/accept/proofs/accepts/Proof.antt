@@ -33,8 +33,8 @@ returns-2 c =
 places-fit-requires : tie.Need-places-fit-requires
 places-fit-requires c κs = search needs
 
-is-configured-requires : tie.Need-is-configured-requires
-is-configured-requires c κs = search needs
+has-place-requires : tie.Need-has-place-requires
+has-place-requires c κs = search needs
 
 rows-accepted-requires : tie.Need-rows-accepted-requires
 rows-accepted-requires c κs = search needs
@@ -48,7 +48,7 @@ returns-3 c =
       ← c .before .before .before .before .before .before .before .before .places-fit .ensures,
       c .before .before .before .before .before .before .before .if3 .taken,
       lt-ltb _ _ (c .before .before .before .before .before .if4 .taken),
-      ← c .before .before .before .is-configured .ensures,
+      ← c .before .before .before .has-place .ensures,
       c .before .before .if5 .taken,
     )
     (c .rows-accepted .ensures ∙ sym (table-rows _))
@@ -62,7 +62,7 @@ returns-4 c =
       ← c .before .before .before .before .before .before .places-fit .ensures,
       c .before .before .before .before .before .if3 .taken,
       lt-ltb _ _ (c .before .before .before .if4 .taken),
-      ← c .before .is-configured .ensures,
+      ← c .before .has-place .ensures,
       c .if5 .left,
     )
 
@@ -94,7 +94,7 @@ accepts-spec =
     returns
     returns-2
     places-fit-requires
-    is-configured-requires
+    has-place-requires
     rows-accepted-requires
     returns-3
     returns-4

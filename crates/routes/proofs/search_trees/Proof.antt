@@ -17,8 +17,8 @@ start-tree-requires c κs = (c .before .before .before .before .before .before .
 locals-of-requires : tie.Need-locals-of-requires
 locals-of-requires c κs = search needs
 
-count-requires : tie.Need-count-requires
-count-requires c κs = search needs
+tree-count-requires : tie.Need-tree-count-requires
+tree-count-requires c κs = search needs
 
 slot-requires : tie.Need-slot-requires
 slot-requires c κs = (search needs, given-small _ _ (c .before .before .before .before .before .local .given .1) (c .before .before .before .before .before .before .before .before .before .before .pre .1 .0))
@@ -42,7 +42,7 @@ returns c = (
     c .before .before .before .before .before .before .before .before .before .before .before .before .before .before .before .before .local .given .1,
     ← c .before .before .before .before .before .before .before .before .before .before .before .before .before .before .start-tree .ensures .0,
     ← c .before .before .before .before .before .before .before .before .before .before .before .before .before .locals-of .ensures .0,
-    ← c .before .before .before .before .before .before .before .before .before .before .before .before .count .ensures .0,
+    ← c .before .before .before .before .before .before .before .before .before .before .before .before .tree-count .ensures .0,
     lt-ltb _ _ (c .before .before .before .before .before .before .before .before .before .before .before .if1 .taken),
     ← c .before .before .before .before .before .before .before .before .before .before .slot .ensures,
     ← c .before .before .before .before .before .before .get-reserving .ensures .0,
@@ -75,7 +75,7 @@ returns-2 c = (
     c .before .before .before .before .before .before .before .before .before .before .before .before .before .before .before .local .given .1,
     ← c .before .before .before .before .before .before .before .before .before .before .before .before .before .start-tree .ensures .0,
     ← c .before .before .before .before .before .before .before .before .before .before .before .before .locals-of .ensures .0,
-    ← c .before .before .before .before .before .before .before .before .before .before .before .count .ensures .0,
+    ← c .before .before .before .before .before .before .before .before .before .before .before .tree-count .ensures .0,
     le-ltb _ _ (c .before .before .before .before .before .before .before .before .before .before .if1 .left),
     ← c .before .before .before .before .before .before .search-and-steal .ensures .0,
   ),
@@ -108,7 +108,7 @@ search-trees-spec =
     enum-known-local
     start-tree-requires
     locals-of-requires
-    count-requires
+    tree-count-requires
     slot-requires
     get-reserving-requires
     same-length

@@ -18,8 +18,8 @@ returns c = (
   search needs,
 )
 
-count-requires : tie.Need-count-requires
-count-requires c κs = search needs
+tree-count-requires : tie.Need-tree-count-requires
+tree-count-requires c κs = search needs
 
 portion-requires : tie.Need-portion-requires
 portion-requires c κs = search needs
@@ -30,7 +30,7 @@ returns-2 c = (
   rw (
     ← c .before .before .before .locals-of .ensures .0,
     ne-eqb _ _ (c .before .before .if1 .left),
-    ← c .before .count .ensures .0,
+    ← c .before .tree-count .ensures .0,
     ← c .portion .ensures .0,
   ),
   search needs,
@@ -38,4 +38,4 @@ returns-2 c = (
 
 pub start-tree-spec : {M : Type 1} → statement M
 start-tree-spec =
-    tie.close (tie.spec locals-of-requires returns count-requires portion-requires returns-2)
+    tie.close (tie.spec locals-of-requires returns tree-count-requires portion-requires returns-2)

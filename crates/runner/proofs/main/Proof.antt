@@ -1,5 +1,6 @@
 -- `runner::main` meets its contract. The measure is the count of turns. Assumes nothing.
 use borrow.Author.Needs.{needs}
+use native.Mathlib.Omega.{arith}
 use Rattle.runner.proofs.main.Statement.{statement}
 use Rattle.runner.proofs.main.Tie as tie
 
@@ -18,6 +19,9 @@ begun-requires-2 c κs = search needs
 loop-holds : tie.Need-loop-holds Inv-loop μ-loop
 loop-holds c = search needs
 
+sub-turns : tie.Need-sub-turns Inv-loop μ-loop
+sub-turns c = search needs
+
 end-of-requires : tie.Need-end-of-requires Inv-loop μ-loop
 end-of-requires c κs = search needs
 
@@ -33,14 +37,8 @@ after-requires c κs = search needs
 past-requires : tie.Need-past-requires Inv-loop μ-loop
 past-requires c κs = search needs
 
-returns : tie.Need-returns Inv-loop μ-loop
-returns c = search needs
-
-sub-turns : tie.Need-sub-turns Inv-loop μ-loop
-sub-turns c = search needs
-
 loop-less : tie.Need-loop-less Inv-loop μ-loop
-loop-less c = search needs
+loop-less c = omega (arith, c .before .before .before .before .before .before .before .before .before .before .before .before .before .before .loop-test .taken)
 
 loop-again : tie.Need-loop-again Inv-loop μ-loop
 loop-again c = search needs
@@ -48,20 +46,17 @@ loop-again c = search needs
 more-requires : tie.Need-more-requires Inv-loop μ-loop
 more-requires c κs = search needs
 
-returns-2 : tie.Need-returns-2 Inv-loop μ-loop
-returns-2 c = search needs
-
-returns-3 : tie.Need-returns-3 Inv-loop μ-loop
-returns-3 c = search needs
-
-sub-turns-2 : tie.Need-sub-turns-2 Inv-loop μ-loop
-sub-turns-2 c = search needs
+returns : tie.Need-returns Inv-loop μ-loop
+returns c = search needs
 
 loop-less-2 : tie.Need-loop-less-2 Inv-loop μ-loop
-loop-less-2 c = search needs
+loop-less-2 c = omega (arith, c .before .before .before .before .before .before .before .before .loop-test .taken)
 
 loop-again-2 : tie.Need-loop-again-2 Inv-loop μ-loop
 loop-again-2 c = search needs
+
+returns-2 : tie.Need-returns-2 Inv-loop μ-loop
+returns-2 c = search needs
 
 pub main-spec : {M : Type 1} → statement M
 main-spec =
@@ -72,18 +67,16 @@ main-spec =
     begun-requires
     begun-requires-2
     loop-holds
+    sub-turns
     end-of-requires
     command-requires
     obey-requires
     after-requires
     past-requires
-    returns
-    sub-turns
     loop-less
     loop-again
     more-requires
-    returns-2
-    returns-3
-    sub-turns-2
+    returns
     loop-less-2
-    loop-again-2)
+    loop-again-2
+    returns-2)

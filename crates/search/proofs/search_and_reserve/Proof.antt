@@ -5,8 +5,8 @@ use borrow.Author.Needs.{needs}
 use Rattle.search.proofs.search_and_reserve.Statement.{statement}
 use Rattle.search.proofs.search_and_reserve.Tie as tie
 
-count-requires : tie.Need-count-requires
-count-requires c κs = search needs
+tree-count-requires : tie.Need-tree-count-requires
+tree-count-requires c κs = search needs
 
 rounded-start-requires : tie.Need-rounded-start-requires
 rounded-start-requires c κs = search needs
@@ -27,7 +27,7 @@ returns : tie.Need-returns
 unfolding searchAndReserve
 returns c = (
   rw (
-    ← c .before .before .before .before .before .before .before .before .before .before .before .count .ensures .0,
+    ← c .before .before .before .before .before .before .before .before .before .before .before .tree-count .ensures .0,
     ← c .before .before .before .before .before .before .before .before .before .before .rounded-start .ensures .0,
     ← c .before .before .before .before .before .before .search-from .ensures .0,
   ),
@@ -38,7 +38,7 @@ pub search-and-reserve-spec : {M : Type 1} → statement M
 search-and-reserve-spec =
     tie.close
     (tie.spec
-    count-requires
+    tree-count-requires
     rounded-start-requires
     search-from-requires
     same-length

@@ -5,8 +5,8 @@ use borrow.Author.Needs.{needs}
 use Rattle.search.proofs.search_far.Statement.{statement}
 use Rattle.search.proofs.search_far.Tie as tie
 
-count-requires : tie.Need-count-requires
-count-requires c κs = search needs
+tree-count-requires : tie.Need-tree-count-requires
+tree-count-requires c κs = search needs
 
 search-best-requires : tie.Need-search-best-requires
 search-best-requires c κs = search needs
@@ -24,13 +24,13 @@ returns : tie.Need-returns
 unfolding searchFar
 returns c = (
   rw (
-    ← c .before .before .before .before .before .before .before .before .before .before .count .ensures .0,
+    ← c .before .before .before .before .before .before .before .before .before .before .tree-count .ensures .0,
     ← c .before .before .before .before .before .before .search-best .ensures .0,
   ),
-  omega (arith, c .before .before .before .before .before .before .search-best .ensures .1, c .before .before .before .before .before .before .before .before .before .before .count .ensures .1),
+  omega (arith, c .before .before .before .before .before .before .search-best .ensures .1, c .before .before .before .before .before .before .before .before .before .before .tree-count .ensures .1),
 )
 
 pub search-far-spec : {M : Type 1} → statement M
 search-far-spec =
     tie.close
-    (tie.spec count-requires search-best-requires same-length same-length-2 same-length-3 returns)
+    (tie.spec tree-count-requires search-best-requires same-length same-length-2 same-length-3 returns)

@@ -4,8 +4,8 @@ use borrow.Author.Needs.{needs}
 use Rattle.search.proofs.search_near.Statement.{statement}
 use Rattle.search.proofs.search_near.Tie as tie
 
-count-requires : tie.Need-count-requires
-count-requires c κs = search needs
+tree-count-requires : tie.Need-tree-count-requires
+tree-count-requires c κs = search needs
 
 near-requires : tie.Need-near-requires
 near-requires c κs = search needs
@@ -25,18 +25,18 @@ same-length-3 c = omega (arith, c .before .before .before .before .before .befor
 returns : tie.Need-returns
 returns c = (
   rw (
-    ← c .before .before .before .before .before .before .before .before .before .before .before .count .ensures .0,
+    ← c .before .before .before .before .before .before .before .before .before .before .before .tree-count .ensures .0,
     ← c .before .before .before .before .before .before .before .before .before .before .near .ensures .0,
     ← c .before .before .before .before .before .before .search-best .ensures .0,
   ),
-  omega (arith, c .before .before .before .before .before .before .search-best .ensures .1, c .before .before .before .before .before .before .before .before .before .before .near .ensures .1, c .before .before .before .before .before .before .before .before .before .before .before .count .ensures .1),
+  omega (arith, c .before .before .before .before .before .before .search-best .ensures .1, c .before .before .before .before .before .before .before .before .before .before .near .ensures .1, c .before .before .before .before .before .before .before .before .before .before .before .tree-count .ensures .1),
 )
 
 pub search-near-spec : {M : Type 1} → statement M
 search-near-spec =
     tie.close
     (tie.spec
-    count-requires
+    tree-count-requires
     near-requires
     search-best-requires
     same-length

@@ -10,8 +10,8 @@ use Rattle.state.proofs.entry_stands.Tie as tie
 load-requires : tie.Need-load-requires
 load-requires c κs = search needs
 
-is-configured-requires : tie.Need-is-configured-requires
-is-configured-requires c κs = search needs
+has-place-requires : tie.Need-has-place-requires
+has-place-requires c κs = search needs
 
 returns : tie.Need-returns
 unfolding entryStands
@@ -19,7 +19,7 @@ returns c =
     rw (
       ← c .before .before .before .before .before .load .ensures .0,
       le-leb _ _ (c .before .before .before .if1 .taken),
-      ← (c .before .before .is-configured .ensures ∙ ap (λ p. configured p (c .before .before .before .before .before .load .result .class)) (c .before .before .before .before .before .before .before .before .pre .0)),
+      ← (c .before .before .has-place .ensures ∙ ap (λ p. configured p (c .before .before .before .before .before .load .result .class)) (c .before .before .before .before .before .before .before .before .pre .0)),
       c .before .if2 .taken,
       c .if3 .taken,
     )
@@ -33,7 +33,7 @@ returns-2 c =
     rw (
       ← c .before .before .before .before .before .before .before .load .ensures .0,
       le-leb _ _ (c .before .before .before .before .before .if1 .taken),
-      ← (c .before .before .before .before .is-configured .ensures ∙ ap (λ p. configured p (c .before .before .before .before .before .before .before .load .result .class)) (c .before .before .before .before .before .before .before .before .before .before .pre .0)),
+      ← (c .before .before .before .before .has-place .ensures ∙ ap (λ p. configured p (c .before .before .before .before .before .before .before .load .result .class)) (c .before .before .before .before .before .before .before .before .before .before .pre .0)),
       c .before .before .before .if2 .taken,
       c .before .before .if3 .left,
       ← c .before .clear-in .ensures,
@@ -45,7 +45,7 @@ returns-3 c =
     rw (
       ← c .before .before .before .before .load .ensures .0,
       le-leb _ _ (c .before .before .if1 .taken),
-      ← (c .before .is-configured .ensures ∙ ap (λ p. configured p (c .before .before .before .before .load .result .class)) (c .before .before .before .before .before .before .before .pre .0)),
+      ← (c .before .has-place .ensures ∙ ap (λ p. configured p (c .before .before .before .before .load .result .class)) (c .before .before .before .before .before .before .before .pre .0)),
       c .if2 .left,
     )
 
@@ -62,7 +62,7 @@ entry-stands-spec =
     tie.close
     (tie.spec
     load-requires
-    is-configured-requires
+    has-place-requires
     returns
     clear-in-requires
     returns-2

@@ -59,14 +59,14 @@ use Rattle.tallies.specs.declared.Rows.{Rows}
 use Rattle.tallies.specs.Rows.{rowList, stores-all}
 use Rattle.tallies.proofs.Rows as R
 use Rattle.tallies.proofs.Rows.Laws as R′
-use Rattle.statistics.specs.declared.Report.{Report}
-use Rattle.statistics.specs.Report.{reportOf, kept, full, filled}
-use Rattle.statistics.proofs.Report as Q
-use Rattle.statistics.proofs.Report.Laws as Q′
-use Rattle.statistics.proofs.tell as g
-use Rattle.statistics.proofs.tell.Symbol as g-def
-use Rattle.statistics.proofs.tell.Symbol.{name as #statistics·tell}
-use Rattle.statistics.proofs.tell.Met as g-thm
+use Rattle.tells.specs.declared.Stats.{Stats}
+use Rattle.tells.specs.Stats.{statsOf, kept, full, filled}
+use Rattle.tells.proofs.Stats as Q
+use Rattle.tells.proofs.Stats.Laws as Q′
+use Rattle.tells.proofs.tell as g
+use Rattle.tells.proofs.tell.Symbol as g-def
+use Rattle.tells.proofs.tell.Symbol.{name as #tells·tell}
+use Rattle.tells.proofs.tell.Met as g-thm
 use Rattle.statistics.proofs.statistics.Key.{name as #statistics·statistics}
 use Rattle.statistics.proofs.statistics as f
 use Rattle.statistics.proofs.statistics.Statement as stated
@@ -108,9 +108,9 @@ module _ {M : Type 1} (𝓤 : URA M) (H : Heap 𝓤) (A : Atoms 𝓤) (at-mem : 
   abbrev Callee : Contract 𝓤
   Callee = tripleOf 𝓤 H A g.signature (g.spec 𝓤 H A at-mem run)
 
-  said-of : (κ : Lft) (h : Header) (tab trs los bis : RefT (List ℕ)) (n : ℕ) (r : Report) → ent 𝓤 (ensured 𝓤 H A g.ended (g.clauses 𝓤 H A at-mem run) (κ, tt) (h, (tab, (trs, (los, (bis, (n, tt)))))) tt r)
-      (fact 𝓤 (r ≡ reportOf (config h (now tab)) (now trs) (now los) (now bis) n))
-  said-of κ h tab trs los bis n r = exE 𝓤 _ (λ ws. snd∗ 𝓤 (sem 𝓤 H A (lasts g.ended (κ, tt) (h, (tab, (trs, (los, (bis, (n, tt)))))) ws)) (fact 𝓤 (r ≡ reportOf (config h (now tab)) (now trs) (now los) (now bis) n)))
+  said-of : (κ : Lft) (h : Header) (tab trs los bis : RefT (List ℕ)) (n : ℕ) (r : Stats) → ent 𝓤 (ensured 𝓤 H A g.ended (g.clauses 𝓤 H A at-mem run) (κ, tt) (h, (tab, (trs, (los, (bis, (n, tt)))))) tt r)
+      (fact 𝓤 (r ≡ statsOf (config h (now tab)) (now trs) (now los) (now bis) n))
+  said-of κ h tab trs los bis n r = exE 𝓤 _ (λ ws. snd∗ 𝓤 (sem 𝓤 H A (lasts g.ended (κ, tt) (h, (tab, (trs, (los, (bis, (n, tt)))))) ws)) (fact 𝓤 (r ≡ statsOf (config h (now tab)) (now trs) (now los) (now bis) n)))
 
 module _ {M : Type 1} (𝓤 : URA M) (H : Heap 𝓤) (A : Atoms 𝓤) (W : Given 𝓤 H A) (at-mem : Memory → SProp 𝓤) (run : Routine → Fun 𝓤) (κ κ′ : Lft) (q q′ : Share) (h : Header) (tab trs los bis : RefT (List ℕ)) (b o : ℕ) (γ : GName) (ys : List Tally) where
   abbrev asked : Asked
@@ -129,8 +129,8 @@ module _ {M : Type 1} (𝓤 : URA M) (H : Heap 𝓤) (A : Atoms 𝓤) (W : Given
   given = LL.val P.the-type P′.the-laws h ∷ vptr (tab .ptr .0) (tab .ptr .1) ∷ sliceVal (trs .ptr) (length (trs .now)) ∷ sliceVal (los .ptr) (length (los .now)) ∷ sliceVal (bis .ptr) (length (bis .now)) ∷ sliceVal (b, o) (length ys) ∷ []
 
   -- the report that the callee makes, and what is asked of the answer
-  abbrev told : Report
-  told = reportOf (config h (now tab)) (now trs) (now los) (now bis) (length ys)
+  abbrev told : Stats
+  told = statsOf (config h (now tab)) (now trs) (now los) (now bis) (length ys)
 
   abbrev Said : Totals → List Tally → Type 0
   Said t zs = toldTotals t zs ≡ statistics (config h (now tab)) (now trs) (now los) (now bis) ys
@@ -254,16 +254,16 @@ module _ {M : Type 1} (𝓤 : URA M) (H : Heap 𝓤) (A : Atoms 𝓤) (W : Given
     same8 = length-set y7 7 (r .r7) ∙ same7
 
   -- eight rows are lent and all are stored
-  stored : (r : Report) → r ≡ told → T (r .done) → length ys ≡ 8 → Said (r .totals) (y8 (r .rows))
+  stored : (r : Stats) → r ≡ told → T (r .done) → length ys ≡ 8 → Said (r .totals) (y8 (r .rows))
   stored r e yes eight =
       subst (λ (zs : List Tally). Said (r .totals) zs) (sym (stores-all ys (r .rows) eight))
-      (subst (λ (z : Report). T (z .done) → Said (z .totals) (rowList (z .rows))) (sym e) (filled (config h (now tab)) (now trs) (now los) (now bis) ys) yes)
+      (subst (λ (z : Stats). T (z .done) → Said (z .totals) (rowList (z .rows))) (sym e) (filled (config h (now tab)) (now trs) (now los) (now bis) ys) yes)
 
   -- none is stored
-  left : (r : Report) → r ≡ told → T (not (r .done)) → Said (r .totals) ys
-  left r e n = subst (λ (z : Report). T (not (z .done)) → Said (z .totals) ys) (sym e) (kept (config h (now tab)) (now trs) (now los) (now bis) ys) n
+  left : (r : Stats) → r ≡ told → T (not (r .done)) → Said (r .totals) ys
+  left r e n = subst (λ (z : Stats). T (not (z .done)) → Said (z .totals) ys) (sym e) (kept (config h (now tab)) (now trs) (now los) (now bis) ys) n
 
-  module _ (C : Calls 𝓤 H) (Λ : Loops 𝓤 H) (fm : FmC 𝓤 H (W .laws) C) (known : Triple 𝓤 (C #statistics·tell) (Callee 𝓤 H A at-mem run)) where
+  module _ (C : Calls 𝓤 H) (Λ : Loops 𝓤 H) (fm : FmC 𝓤 H (W .laws) C) (known : Triple 𝓤 (C #tells·tell) (Callee 𝓤 H A at-mem run)) where
     walk : Is P.the-row h (head-vals h) → Is (table-row κ) tab (ptr-vals tab) → Is (ShrSlice (named 0) κ u32) trs (slice-vals trs) → Is (ShrSlice (named 0) κ u64) los (slice-vals los) → Is (ShrSlice (named 0) κ u64) bis (slice-vals bis)
         → Room T.the-row (length ys) → ent 𝓤 (onEntry 𝓤 H A f.signature (κ, (κ′, tt)) (q, (q′, tt)) x at) (WpFn 𝓤 H C Λ code.function given Post)
     walk gh gt gs gl gb gn =
@@ -278,7 +278,7 @@ module _ {M : Type 1} (𝓤 : URA M) (H : Heap 𝓤) (A : Atoms 𝓤) (W : Given
         -- [table; head; trees; locals; bits; the second token; rows; the call's; _17 (8); .. _0 (42)]
         move ! (7 ∷ 6 ∷ 5 ∷ 4 ∷ 3 ∷ 2 ∷ 0 ∷ 1 ∷ []) $
         calls-at ! fm (Callee 𝓤 H A at-mem run) known to (and-then ! (load ! (from ! (stop !)) (look ! 40 refl)) (and-then ! (load ! (from ! (stop !)) (look ! 38 refl)) (and-then ! (load ! (from ! (stop !)) (look ! 36 refl)) (and-then ! (load ! (from ! (stop !)) (look ! 34 refl)) (and-then ! (load ! (from ! (stop !)) (look ! 32 refl)) (and-then ! (load ! (from ! (stop !)) (look ! 26 refl)) (no-more !))))))) (λ v.
-        use1 W (later (some (λ (r : Report). ((‵ (flft κ q) ⊛ ‵ ftrue) ⊛ ‵ (Q.the-row .own r (v ∷ []))) ⊛ raw (ensured 𝓤 H A g.ended (g.clauses 𝓤 H A at-mem run) (κ, tt) asked tt r)))) (id⊢ 𝓤 _) $ await ! tt $ pick ! (λ r.
+        use1 W (later (some (λ (r : Stats). ((‵ (flft κ q) ⊛ ‵ ftrue) ⊛ ‵ (Q.the-row .own r (v ∷ []))) ⊛ raw (ensured 𝓤 H A g.ended (g.clauses 𝓤 H A at-mem run) (κ, tt) asked tt r)))) (id⊢ 𝓤 _) $ await ! tt $ pick ! (λ r.
         split ! $ move ! (1 ∷ []) $ use1 W (raw (fact 𝓤 (r ≡ told))) (said-of 𝓤 H A at-mem run κ h tab trs los bis (length ys) r) $ heard ! (r ≡ told) (λ e. split ! $ move ! (1 ∷ []) $
         -- [what the report owns; the first token; rows; the second token; bits; locals; trees; table; head; _17 (9); .. _7 (29); ..]
         peeks ! Q.the-row (Is Q.the-row) (shows 𝓤 H A Q.the-row) r (v ∷ []) (λ gr.
@@ -291,7 +291,7 @@ module _ {M : Type 1} (𝓤 : URA M) (H : Heap 𝓤) (A : Atoms 𝓤) (W : Given
         assigns ! (of-opd ! (load ! (from ! (fld ! refl (stop !))) (look-in ! 30 (sub ! 0 refl (whole !))))) (from ! (stop !)) (init ! 26 refl (tt, tt)) $
         first ! $ branches ! (load ! (from ! (stop !)) (look ! 26 refl))
         (λ yes.
-        let eight : length ys ≡ 8 = full (config h (now tab)) (now trs) (now los) (now bis) ys (subst (λ (z : Report). T (z .done)) e yes) in
+        let eight : length ys ≡ 8 = full (config h (now tab)) (now trs) (now los) (now bis) ys (subst (λ (z : Stats). T (z .done)) e yes) in
         let l0 : 0 < length ys = omega (arith, eight) in
         let is0 : Is T.the-row (r .rows .r0) (vals (r .rows .r0)) = LL.owed R.the-type R′.the-laws (r .rows) _ ir .0 in
         let l1 : 1 < length (y1 (r .rows)) = omega (arith, same1 (r .rows), eight) in
@@ -367,7 +367,7 @@ module _ {M : Type 1} (𝓤 : URA M) (H : Heap 𝓤) (A : Atoms 𝓤) (W : Given
         keep ! (0 ∷ 1 ∷ 2 ∷ 4 ∷ 5 ∷ 6 ∷ 7 ∷ 8 ∷ 9 ∷ []) $ by ! (exits gn (r .totals) is ys refl (left r e not-yet)))))))))))))))))))))))))
 
 module _ {M : Type 1} (𝓤 : URA M) (H : Heap 𝓤) (A : Atoms 𝓤) (W : Given 𝓤 H A) (at-mem : Memory → SProp 𝓤) (run : Routine → Fun 𝓤) where
-  statistics-walks : (C : Calls 𝓤 H) (Λ : Loops 𝓤 H) → FmC 𝓤 H (W .laws) C → Triple 𝓤 (C #statistics·tell) (Callee 𝓤 H A at-mem run)
+  statistics-walks : (C : Calls 𝓤 H) (Λ : Loops 𝓤 H) → FmC 𝓤 H (W .laws) C → Triple 𝓤 (C #tells·tell) (Callee 𝓤 H A at-mem run)
       → Walks 𝓤 H A f.ended stayed (WpFn 𝓤 H C Λ code.function) (f.clauses 𝓤 H A at-mem run)
   statistics-walks C Λ fm known = walked 𝓤 H A f.ended stayed (f.clauses 𝓤 H A at-mem run) (WpFn 𝓤 H C Λ code.function) (λ κs. (head-vals, (ptr-vals, (slice-vals, (slice-vals, (slice-vals, (slice-vals, tt)))))))
       (λ κs. (LL.tells P.the-type P′.the-laws, (shr-tells (named 0) (κs .0) (Array u32 64), (shr-slice-tells (named 0) (κs .0) u32, (shr-slice-tells (named 0) (κs .0) u64, (shr-slice-tells (named 0) (κs .0) u64, (mut-slice-tells (named 1) (κs .1 .0) T.the-row, tt)))))))
@@ -379,7 +379,7 @@ module _ {M : Type 1} (𝓤 : URA M) (H : Heap 𝓤) (A : Atoms 𝓤) (W : Given
   goes = (goes-none 𝓤 H A W 2 (λ _. P.the-row) yes (λ κs x f. refl), (goes-none-ref 𝓤 H A W 2 (0 ∷ []) tt (ArrayOf (plain (λ _. u32)) (λ _. tt) 64) yes, (goes-none-slice 𝓤 H A W 2 (0 ∷ []) tt (plain (λ _. u32)) yes, (goes-none-slice 𝓤 H A W 2 (0 ∷ []) tt (plain (λ _. u64)) yes, (goes-none-slice 𝓤 H A W 2 (0 ∷ []) tt (plain (λ _. u64)) yes, (goes-slice 𝓤 H A W 2 1 tt (plain (λ _. T.the-row)), tt))))))
 
 statistics-meets : {M : Type 1} (𝓤 : URA M) (H : Heap 𝓤) (A : Atoms 𝓤) (W : Given 𝓤 H A) (at-mem : Memory → SProp 𝓤) (run : Routine → Fun 𝓤) (𝓣 : Tables 𝓤 H)
-    → Triple 𝓤 (𝓣 .C #statistics·tell) (Callee 𝓤 H A at-mem run)
+    → Triple 𝓤 (𝓣 .C #tells·tell) (Callee 𝓤 H A at-mem run)
     → Meets 𝓤 H A f.signature (WpFn 𝓤 H (𝓣 .C) (𝓣 .Λ) code.function) (f.spec 𝓤 H A at-mem run)
 statistics-meets 𝓤 H A W at-mem run 𝓣 known = walk-meets 𝓤 H A f.ended stayed W (goes 𝓤 H A W at-mem run) (f.clauses 𝓤 H A at-mem run) (WpFn 𝓤 H (𝓣 .C) (𝓣 .Λ) code.function) (WpFn-mono 𝓤 H (W .laws) 𝓣 code.function)
     (statistics-walks 𝓤 H A W at-mem run (𝓣 .C) (𝓣 .Λ) (fmOf 𝓤 H (W .laws) 𝓣) known)
@@ -390,4 +390,4 @@ statistics-spec 𝓤 H 𝓜 𝓖 𝓡 =
     entered 𝓤 H (tripleOf 𝓤 H (𝓖 .A) f.signature (f.spec 𝓤 H (𝓖 .A) (𝓜 .mem) (𝓡 .run)))
     (tables 𝓤 H 𝓜 𝓡 code.env .C) (tables 𝓤 H 𝓜 𝓡 code.env .Λ) #statistics·statistics code.function (code.unfolded 𝓤 H 𝓜 𝓡)
     (statistics-meets 𝓤 H (𝓖 .A) (givenOf 𝓤 H 𝓜 𝓖) (𝓜 .mem) (𝓡 .run) (tablesOf 𝓤 H 𝓜 (tables 𝓤 H 𝓜 𝓡 code.env))
-    (cited 𝓤 H (Callee 𝓤 H (𝓖 .A) (𝓜 .mem) (𝓡 .run)) 𝓜 𝓡 code.env #statistics·tell g-def.routine code.calls-statistics·tell (g-thm.met 𝓤 H 𝓜 𝓖 𝓡)))
+    (cited 𝓤 H (Callee 𝓤 H (𝓖 .A) (𝓜 .mem) (𝓡 .run)) 𝓜 𝓡 code.env #tells·tell g-def.routine code.calls-tells·tell (g-thm.met 𝓤 H 𝓜 𝓖 𝓡)))

@@ -28,14 +28,14 @@ record Inv (first last looks tries : ℕ) (trees₀ locals₀ bits₀ trees loca
   next : now
 
 abbrev Inv-loop : tie.InvT-loop
-Inv-loop h table trees₀ locals₀ bits₀ q w j m n start first last looks tries p asked₀ s₀ trees locals bits asked s =
-    Inv first last looks tries trees₀ locals₀ bits₀ trees locals bits (s .at) (s .looks) asked
-    (walk (config h table) q w j m n start (s .at) last (listOf m (s .best)) (st trees locals bits (s .looks) asked)
-    ≡ walk (config h table) q w j m n start first last [] (st trees₀ locals₀ bits₀ looks tries))
-    (s .at < last → rate (config h table) q w (entryAt trees (place n start (s .at))) ≡ 258)
+Inv-loop h table trees₀ locals₀ bits₀ q w j p looks tries asked₀ s₀ trees locals bits asked s =
+    Inv (p .first) (p .last) looks tries trees₀ locals₀ bits₀ trees locals bits (s .at) (s .looks) asked
+    (walk (config h table) q w j (p .m) (p .n) (p .start) (s .at) (p .last) (listOf (p .m) (s .best)) (st trees locals bits (s .looks) asked)
+    ≡ walk (config h table) q w j (p .m) (p .n) (p .start) (p .first) (p .last) [] (st trees₀ locals₀ bits₀ looks tries))
+    (s .at < p .last → rate (config h table) q w (entryAt trees (place (p .n) (p .start) (s .at))) ≡ 258)
 
 abbrev μ-loop : tie.MeasureT-loop
-μ-loop h table trees₀ locals₀ bits₀ q w j m n start first last looks tries p asked₀ s₀ trees locals bits asked s = last - s .at
+μ-loop h table trees₀ locals₀ bits₀ q w j p looks tries asked₀ s₀ trees locals bits asked s = p .last - s .at
 
 walk-on-requires : tie.Need-walk-on-requires Inv-loop μ-loop
 walk-on-requires c κs = search needs
@@ -60,31 +60,31 @@ place-requires c κs = search needs
 
 add-seen : tie.Need-add-seen Inv-loop μ-loop
 add-seen c =
-    let l = c .before .before .before .before .loop .inv in
-    omega (arith, l .high, l .seen-most, c .before .before .before .before .before .before .before .before .before .before .pre)
+    let l = c .before .before .before .before .before .loop .inv in
+    omega (arith, l .high, l .seen-most, c .before .before .before .before .before .before .before .before .before .before .before .pre)
 
 access-requires : tie.Need-access-requires Inv-loop μ-loop
 access-requires c κs =
-    let l = c .before .before .before .before .before .before .before .loop .inv in
-    let p = c .before .before .before .before .before .before .before .before .before .before .before .before .before .pre in
+    let l = c .before .before .before .before .before .before .before .before .loop .inv in
+    let p = c .before .before .before .before .before .before .before .before .before .before .before .before .before .before .pre in
     (p .0, (omega (arith, c .before .before .before .before .place .ensures .1, p .1 .1 .0), (omega (arith, l .high, l .seen-most, p .1 .1 .1), omega (arith, l .high, l .asked-most, p .1 .1 .1))))
 
 ends-requires : tie.Need-ends-requires Inv-loop μ-loop
 ends-requires c κs = search needs
 
 same-length : tie.Need-same-length Inv-loop μ-loop
-same-length c = search needs
+same-length c = c .before .before .before .before .before .before .before .before .access .kept .1 .1 .0 ∙ c .before .before .before .before .before .before .before .before .before .before .before .before .before .before .before .before .before .loop .inv .len-t
 
 same-length-2 : tie.Need-same-length-2 Inv-loop μ-loop
-same-length-2 c = search needs
+same-length-2 c = c .before .before .before .before .before .before .before .before .access .kept .1 .1 .1 .0 ∙ c .before .before .before .before .before .before .before .before .before .before .before .before .before .before .before .before .before .loop .inv .len-l
 
 same-length-3 : tie.Need-same-length-3 Inv-loop μ-loop
-same-length-3 c = search needs
+same-length-3 c = c .before .before .before .before .before .before .before .before .access .kept .1 .1 .1 .1 .0 ∙ c .before .before .before .before .before .before .before .before .before .before .before .before .before .before .before .before .before .loop .inv .len-b
 
 returns : tie.Need-returns Inv-loop μ-loop
 unfolding searchBest stopped
 returns c =
-    let l = c .before .before .before .before .before .before .before .before .before .before .before .before .before .before .before .before .loop .inv in
+    let l = c .before .before .before .before .before .before .before .before .before .before .before .before .before .before .before .before .before .loop .inv in
     let t = c .before .before .before .before .before .before .before .before .before .before .before .before .before .before .if1 .taken in
     let v = c .before .before .before .before .before .before .before .before .access .ensures in
     let e = sym (c .before .ends .ensures) ∙ c .if2 .taken in (
@@ -97,12 +97,12 @@ returns c =
     )
 
 add-walk-on : tie.Need-add-walk-on Inv-loop μ-loop
-add-walk-on c = omega (arith, c .before .before .before .before .before .before .before .before .before .before .before .before .before .before .before .before .before .if1 .taken, c .before .before .before .before .before .before .before .before .before .before .before .before .before .before .before .before .before .before .before .before .before .before .before .before .before .pre)
+add-walk-on c = omega (arith, c .before .before .before .before .before .before .before .before .before .before .before .before .before .before .before .before .before .if1 .taken, c .before .before .before .before .before .before .before .before .before .before .before .before .before .before .before .before .before .before .before .before .before .before .before .before .before .before .pre)
 
 walk-on-requires-2 : tie.Need-walk-on-requires-2 Inv-loop μ-loop
 walk-on-requires-2 c κs =
-    let l = c .before .before .before .before .before .before .before .before .before .before .before .before .before .before .before .before .before .before .before .loop .inv in
-    let p = c .before .before .before .before .before .before .before .before .before .before .before .before .before .before .before .before .before .before .before .before .before .before .before .before .before .pre in
+    let l = c .before .before .before .before .before .before .before .before .before .before .before .before .before .before .before .before .before .before .before .before .loop .inv in
+    let p = c .before .before .before .before .before .before .before .before .before .before .before .before .before .before .before .before .before .before .before .before .before .before .before .before .before .before .pre in
     (p .0, (p .1 .0, (p .1 .1 .0, (p .1 .1 .1 .0, (p .1 .1 .1 .1 .0, omega (arith, l .high, l .seen-most, c .before .before .before .before .before .before .before .before .before .before .before .access .ensures .1, p .1 .1 .1))))))
 
 loop-less : tie.Need-loop-less Inv-loop μ-loop
@@ -110,7 +110,7 @@ loop-less c = search needs
 
 loop-again : tie.Need-loop-again Inv-loop μ-loop
 loop-again c =
-    let l = c .before .before .before .before .before .before .before .before .before .before .before .before .before .before .before .before .before .before .before .before .loop .inv in
+    let l = c .before .before .before .before .before .before .before .before .before .before .before .before .before .before .before .before .before .before .before .before .before .loop .inv in
     let t = c .before .before .before .before .before .before .before .before .before .before .before .before .before .before .before .before .before .before .if1 .taken in
     let v = c .before .before .before .before .before .before .before .before .before .before .before .before .access .ensures in
     let u = c .walk-on2 .ensures in
@@ -130,21 +130,24 @@ loop-again c =
     }
 
 try-list-requires : tie.Need-try-list-requires Inv-loop μ-loop
-try-list-requires c κs = search needs
+try-list-requires c κs =
+    let l = c .before .before .before .before .before .before .before .loop .inv in
+    let p = c .before .before .before .before .before .before .before .before .before .before .before .before .before .pre in
+    (p .0, (p .1 .0, (omega (arith, l .high, l .seen-most, p .1 .1 .1), omega (arith, l .high, l .asked-most, p .1 .1 .1))))
 
 same-length-4 : tie.Need-same-length-4 Inv-loop μ-loop
-same-length-4 c = search needs
+same-length-4 c = c .before .before .before .before .before .before .try-list .kept .1 .1 .0 ∙ c .before .before .before .before .before .before .before .before .before .before .before .before .before .before .loop .inv .len-t
 
 same-length-5 : tie.Need-same-length-5 Inv-loop μ-loop
-same-length-5 c = search needs
+same-length-5 c = c .before .before .before .before .before .before .try-list .kept .1 .1 .1 .0 ∙ c .before .before .before .before .before .before .before .before .before .before .before .before .before .before .loop .inv .len-l
 
 same-length-6 : tie.Need-same-length-6 Inv-loop μ-loop
-same-length-6 c = search needs
+same-length-6 c = c .before .before .before .before .before .before .try-list .kept .1 .1 .1 .1 .0 ∙ c .before .before .before .before .before .before .before .before .before .before .before .before .before .before .loop .inv .len-b
 
 returns-2 : tie.Need-returns-2 Inv-loop μ-loop
 unfolding searchBest onSight
 returns-2 c =
-    let l = c .before .before .before .before .before .before .before .before .before .before .before .before .before .loop .inv in
+    let l = c .before .before .before .before .before .before .before .before .before .before .before .before .before .before .loop .inv in
     let v = c .before .before .before .before .before .before .try-list .ensures in
     (rw (← l .walked, walk-end _ _ _ _ _ _ _ _ _ _ _ (c .before .before .before .before .before .before .before .before .before .before .before .if1 .left), ← v .0), omega (arith, v .1, l .low, l .high, l .seen-most, l .asked-most))
 

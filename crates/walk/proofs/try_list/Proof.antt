@@ -1,8 +1,9 @@
 -- `walk::try_list` meets its contract: at each turn the list from here is the list from the start. Assumes nothing.
 use borrow.Author.Needs.{needs}
-use mathlib.Core.Path.{_≡_, sym, _∙_}
+use mathlib.Core.Path.{_≡_, refl, sym, _∙_}
 use mathlib.Core.List.{List}
 use Prim.Native.Nat.{ℕ, _≤_, _-_, _+_}
+use native.Mathlib.Omega.{arith}
 use lib.ListN.{length}
 use Rattle.rules.specs.Words.{config}
 use Rattle.ways.specs.State.{st}
@@ -40,9 +41,9 @@ loop-holds c =
       seen-most = search needs;
       asked-most = search needs;
       places = search needs;
-      len-t = search needs;
-      len-l = search needs;
-      len-b = search needs;
+      len-t = refl;
+      len-l = refl;
+      len-b = refl;
       same-list = rw from-first;
     }
 
@@ -56,13 +57,13 @@ missed-requires : tie.Need-missed-requires Inv-loop μ-loop
 missed-requires c κs = search needs
 
 same-length : tie.Need-same-length Inv-loop μ-loop
-same-length c = search needs
+same-length c = c .before .before .before .loop .inv .len-t
 
 same-length-2 : tie.Need-same-length-2 Inv-loop μ-loop
-same-length-2 c = search needs
+same-length-2 c = c .before .before .before .loop .inv .len-l
 
 same-length-3 : tie.Need-same-length-3 Inv-loop μ-loop
-same-length-3 c = search needs
+same-length-3 c = c .before .before .before .loop .inv .len-b
 
 returns : tie.Need-returns Inv-loop μ-loop
 unfolding tryList
@@ -78,13 +79,13 @@ ends-requires : tie.Need-ends-requires Inv-loop μ-loop
 ends-requires c κs = search needs
 
 same-length-4 : tie.Need-same-length-4 Inv-loop μ-loop
-same-length-4 c = search needs
+same-length-4 c = c .before .before .before .before .before .before .before .before .access .kept .1 .1 .0 ∙ c .before .before .before .before .before .before .before .before .before .before .before .before .before .before .loop .inv .len-t
 
 same-length-5 : tie.Need-same-length-5 Inv-loop μ-loop
-same-length-5 c = search needs
+same-length-5 c = c .before .before .before .before .before .before .before .before .access .kept .1 .1 .1 .0 ∙ c .before .before .before .before .before .before .before .before .before .before .before .before .before .before .loop .inv .len-l
 
 same-length-6 : tie.Need-same-length-6 Inv-loop μ-loop
-same-length-6 c = search needs
+same-length-6 c = c .before .before .before .before .before .before .before .before .access .kept .1 .1 .1 .1 .0 ∙ c .before .before .before .before .before .before .before .before .before .before .before .before .before .before .loop .inv .len-b
 
 returns-2 : tie.Need-returns-2 Inv-loop μ-loop
 unfolding tryList
@@ -114,13 +115,13 @@ loop-again c =
     let t = c .before .before .before .before .before .before .before .before .before .before .before .before .before .loop-test .taken in
     let v = c .before .before .before .before .before .before .before .before .access in
     record {
-      most = search needs;
-      seen-most = search needs;
-      asked-most = search needs;
-      places = search needs;
-      len-t = search needs;
-      len-l = search needs;
-      len-b = search needs;
+      most = omega (arith, t);
+      seen-most = omega (arith, l .inv .seen-most, v .ensures .1);
+      asked-most = omega (arith, l .inv .asked-most, v .ensures .1);
+      places = l .inv .places;
+      len-t = v .kept .1 .1 .0 ∙ l .inv .len-t;
+      len-l = v .kept .1 .1 .1 .0 ∙ l .inv .len-l;
+      len-b = v .kept .1 .1 .1 .1 .0 ∙ l .inv .len-b;
       same-list = rw (
         from-more _ _ _ t (l .inv .places) (c .before .before .before .before .before .before .before .before .before .before .before .before .if1 .left),
         ← v .ensures .0,
@@ -132,13 +133,13 @@ missed-requires-2 : tie.Need-missed-requires-2 Inv-loop μ-loop
 missed-requires-2 c κs = search needs
 
 same-length-7 : tie.Need-same-length-7 Inv-loop μ-loop
-same-length-7 c = search needs
+same-length-7 c = c .before .before .loop .inv .len-t
 
 same-length-8 : tie.Need-same-length-8 Inv-loop μ-loop
-same-length-8 c = search needs
+same-length-8 c = c .before .before .loop .inv .len-l
 
 same-length-9 : tie.Need-same-length-9 Inv-loop μ-loop
-same-length-9 c = search needs
+same-length-9 c = c .before .before .loop .inv .len-b
 
 returns-3 : tie.Need-returns-3 Inv-loop μ-loop
 unfolding tryList

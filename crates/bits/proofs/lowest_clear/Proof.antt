@@ -1,12 +1,12 @@
--- `bits::first_clear` meets its contract. Assumes nothing.
+-- `bits::lowest_clear` meets its contract. Assumes nothing.
 use mathlib.Core.Path.{refl}
 use Prim.Native.Nat.{_-_, _^_}
 use native.Mathlib.Omega.{arith}
 use lib.Count.{trailing-le}
 use borrow.Author.Needs.{needs}
-use Rattle.lower_laws.specs.Trailing.{lowestClear}
-use Rattle.bits.proofs.first_clear.Statement.{statement}
-use Rattle.bits.proofs.first_clear.Tie as tie
+use Rattle.lower_laws.specs.LowestClear.{lowestClear}
+use Rattle.bits.proofs.lowest_clear.Statement.{statement}
+use Rattle.bits.proofs.lowest_clear.Tie as tie
 
 sub-result : tie.Need-sub-result
 sub-result c = search needs
@@ -18,5 +18,5 @@ returns : tie.Need-returns
 unfolding lowestClear
 returns c = refl
 
-pub first-clear-spec : {M : Type 1} → statement M
-first-clear-spec = tie.close (tie.spec sub-result cast-result returns)
+pub lowest-clear-spec : {M : Type 1} → statement M
+lowest-clear-spec = tie.close (tie.spec sub-result cast-result returns)

@@ -1,2 +1,2 @@
 -- statistics by value, and against the definition
-pub mod Report
+pub mod Stats

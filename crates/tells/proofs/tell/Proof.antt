@@ -1,12 +1,12 @@
--- `statistics::tell` meets its contract: each return is the report. Assumes nothing.
+-- `tells::tell` meets its contract: each return is the report. Assumes nothing.
 use mathlib.Core.Path.{sym, _∙_}
 use Rattle.rules.specs.Base.{ifte}
 use Rattle.step_laws.specs.Tested.{standing-accepted, frames-small}
-use Rattle.statistics.specs.Report.{reportOf}
+use Rattle.tells.specs.Stats.{statsOf}
 use borrow.Author.Tests.{eq-eqb, ne-eqb}
 use borrow.Author.Needs.{needs}
-use Rattle.statistics.proofs.tell.Statement.{statement}
-use Rattle.statistics.proofs.tell.Tie as tie
+use Rattle.tells.proofs.tell.Statement.{statement}
+use Rattle.tells.proofs.tell.Tie as tie
 
 stands-requires : tie.Need-stands-requires
 stands-requires c κs = search needs
@@ -18,7 +18,7 @@ all-rows-requires : tie.Need-all-rows-requires
 all-rows-requires c κs = frames-small _ _ (standing-accepted _ _ _ _ (sym (c .before .before .before .stands .ensures) ∙ c .before .before .if1 .taken))
 
 returns : tie.Need-returns
-unfolding reportOf ifte
+unfolding statsOf ifte
 returns c =
     rw (
       ← c .before .before .before .before .stands .ensures,
@@ -33,7 +33,7 @@ refused-requires : tie.Need-refused-requires
 refused-requires c κs = search needs
 
 returns-2 : tie.Need-returns-2
-unfolding reportOf ifte
+unfolding statsOf ifte
 returns-2 c =
     rw (
       ← c .before .before .before .stands .ensures,
@@ -46,7 +46,7 @@ refused-requires-2 : tie.Need-refused-requires-2
 refused-requires-2 c κs = search needs
 
 returns-3 : tie.Need-returns-3
-unfolding reportOf ifte
+unfolding statsOf ifte
 returns-3 c =
     rw (
       ← c .before .before .stands .ensures,

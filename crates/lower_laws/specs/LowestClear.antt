@@ -32,8 +32,8 @@ pub record Lowest (k w t : ℕ) : Type 0 where
   pub below : (i : ℕ) → i < t → w / 2 ^ i % 2 ≡ 1
   pub at : t < k → w / 2 ^ t % 2 ≡ 0
 
-first-clear : (k w : ℕ) → w % 2 ≡ 0 → Lowest k w 0
-first-clear k w h = record { below = λ i l. absurd (let z : i < 0 = l in omega arith); at = λ _. low-bit w ∙ h }
+lowest-bit-clear : (k w : ℕ) → w % 2 ≡ 0 → Lowest k w 0
+lowest-bit-clear k w h = record { below = λ i l. absurd (let z : i < 0 = l in omega arith); at = λ _. low-bit w ∙ h }
 
 further : (k w t : ℕ) → w % 2 ≡ 1 → Lowest k (w / 2) t → Lowest (suc k) w (suc t)
 further k w t h g = record { below = low; at = λ l. next-bit w t ∙ g .at (omega arith) }
@@ -53,7 +53,7 @@ lowest (suc k) w h =
     rw (q, r) (bit (w % 2) refl g)
   where
     bit : (b : ℕ) → w % 2 ≡ b → Lowest k (w / 2) (trailingZeros k (2 ^ k - 1 - w / 2)) → Lowest (suc k) w (under (1 - w % 2) (trailingZeros k (2 ^ k - 1 - w / 2)))
-    bit zero e g = rw e (first-clear (suc k) w e)
+    bit zero e g = rw e (lowest-bit-clear (suc k) w e)
     bit (suc b) e g = let o : w % 2 ≡ 1 = omega (arith, e) in rw o (further k w _ o g)
 
 module _ (w : ℕ) (fits : w < 2 ^ 64) (v : ℕ) (small : v < 6) where
