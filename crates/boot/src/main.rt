@@ -41,7 +41,7 @@ fn take_block(
     requires { ⌜ order < 12 ⌝ }
 {
     let q = patterns::request(p, order);
-    let reply = llfree::get(h, table, trees, locals, bits, Name::Any, q);
+    let reply = get::get(h, table, trees, locals, bits, Name::Any, q);
     says::got(p, order, reply);
     let granted = reply.granted;
     match granted {
@@ -102,7 +102,7 @@ fn give_block(
     requires { ⌜ order < 12 ⌝ }
 {
     let q = patterns::request(p, order);
-    let outcome = llfree::put(h, table, trees, locals, bits, frame, q);
+    let outcome = put::put(h, table, trees, locals, bits, frame, q);
     says::gave(p, order, outcome);
 }
 
@@ -180,7 +180,7 @@ fn serve(h: Header, table: &[u32; 64], trees: &mut [u32], locals: &mut [u64], bi
         Pattern::SecondOverlay,
         second,
     );
-    let drained = llfree::drain(h, table, trees, locals, bits);
+    let drained = drain::drain(h, table, trees, locals, bits);
     says::outcome(b"drain", drained);
     figures(h, table, trees, locals, bits);
 }
@@ -196,7 +196,7 @@ fn start(
     requires { ⌜ Ready (config h (now table)) (now trees) (now locals) (now bits) ⌝ }
     ensures { λ r. ⌜ outcomeOf r ≡ 0 ⌝ }
 {
-    llfree::start(h, table, trees, locals, bits, true)
+    start::start(h, table, trees, locals, bits, true)
 }
 
 // A boot on lent words. A start that is refused would end it; that the starts of both boards are Done is proved.

@@ -16,7 +16,7 @@ fn start(
     out: &mut [u8],
     at: usize,
 ) -> usize {
-    let o = llfree::start(h, table, trees, locals, bits, all_free);
+    let o = start::start(h, table, trees, locals, bits, all_free);
     answers::outcome(out, at, b"start ", o)
 }
 
@@ -32,7 +32,7 @@ fn get(
     out: &mut [u8],
     at: usize,
 ) -> usize {
-    let r = llfree::get(h, table, trees, locals, bits, name, q);
+    let r = get::get(h, table, trees, locals, bits, name, q);
     replies::reply(out, at, r)
 }
 
@@ -48,7 +48,7 @@ fn put(
     out: &mut [u8],
     at: usize,
 ) -> usize {
-    let o = llfree::put(h, table, trees, locals, bits, frame, q);
+    let o = put::put(h, table, trees, locals, bits, frame, q);
     answers::outcome(out, at, b"put ", o)
 }
 
@@ -62,7 +62,7 @@ fn drain(
     out: &mut [u8],
     at: usize,
 ) -> usize {
-    let o = llfree::drain(h, table, trees, locals, bits);
+    let o = drain::drain(h, table, trees, locals, bits);
     answers::outcome(out, at, b"drain ", o)
 }
 

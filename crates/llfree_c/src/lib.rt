@@ -63,7 +63,7 @@ pub extern "C" fn llfree_start(
     ensures { λ r. ⌜ StartNumber h (now (table .entry)) free (words (now (trees .entry)) (now (locals .entry)) (now (bits .entry)))
         r (words (now (trees .exit)) (now (locals .exit)) (now (bits .exit))) ⌝ }
 {
-    numbers::number(llfree::start(h, table, trees, locals, bits, free))
+    numbers::number(start::start(h, table, trees, locals, bits, free))
 }
 
 // A get, of the named frame or of any.
@@ -86,7 +86,7 @@ pub extern "C" fn llfree_get(
 {
     let name = name_of(named, frame);
     let q = ask(order, class, given, local);
-    numbers::answered(llfree::get(h, table, trees, locals, bits, name, q))
+    numbers::answered(get::get(h, table, trees, locals, bits, name, q))
 }
 
 // A put of the block at a frame.
@@ -107,7 +107,7 @@ pub extern "C" fn llfree_put(
         r (words (now (trees .exit)) (now (locals .exit)) (now (bits .exit))) ⌝ }
 {
     let q = ask(order, class, given, local);
-    numbers::number(llfree::put(h, table, trees, locals, bits, frame, q))
+    numbers::number(put::put(h, table, trees, locals, bits, frame, q))
 }
 
 // Every reservation is returned.
@@ -122,7 +122,7 @@ pub extern "C" fn llfree_drain(
     ensures { λ r. ⌜ DrainNumber h (now (table .entry)) (words (now (trees .entry)) (now (locals .entry)) (now (bits .entry)))
         r (words (now (trees .exit)) (now (locals .exit)) (now (bits .exit))) ⌝ }
 {
-    numbers::number(llfree::drain(h, table, trees, locals, bits))
+    numbers::number(drain::drain(h, table, trees, locals, bits))
 }
 
 // Statistics, where so many tally rows are to be filled: the rows come by value.

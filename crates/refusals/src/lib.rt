@@ -70,7 +70,7 @@ fn get(
     n: usize,
 ) -> usize {
     let q = request(n);
-    number(llfree::get(h, table, trees, locals, bits, name(h.frames, n), q))
+    number(get::get(h, table, trees, locals, bits, name(h.frames, n), q))
 }
 
 // The get that was to be refused with n, and the number that it answered.
@@ -104,7 +104,7 @@ fn short_drain(
 ) {
     if trees.len() > 0 {
         let n = trees.len() - 1;
-        let drained = llfree::drain(h, table, &mut trees[0..n], locals, bits);
+        let drained = drain::drain(h, table, &mut trees[0..n], locals, bits);
         says::outcome(b"drain on a tree word too few", drained);
     }
 }
@@ -136,18 +136,18 @@ fn seven_rows<'a>(
 // Each refusal in turn, on a store of which frame 0 alone is held; no call is refused with 9.
 pub fn show(h: Header, table: &[u32; 64], trees: &mut [u32], locals: &mut [u64], bits: &mut [u64]) {
     says::say(b"\nWhat the loader does on each refusal\n");
-    let started = llfree::start(h, table, trees, locals, bits, true);
+    let started = start::start(h, table, trees, locals, bits, true);
     says::outcome(b"start", started);
     let held = get(h, table, trees, locals, bits, 7);
     says::answered(b"get of frame 0", held);
     short_drain(h, table, trees, locals, bits);
     gets(h, table, trees, locals, bits);
     let q = request(8);
-    let put = llfree::put(h, table, trees, locals, bits, 1, q);
+    let put = put::put(h, table, trees, locals, bits, 1, q);
     says::outcome(b"put of frame 1, which is free", put);
     says::answered(b"no call", 9);
     let wrong = other(h);
-    let refused = llfree::start(wrong, table, trees, locals, bits, true);
+    let refused = start::start(wrong, table, trees, locals, bits, true);
     says::outcome(b"start with default 0", refused);
     seven_rows(h, table, trees, locals, bits);
 }

@@ -1,4 +1,4 @@
-// llfree.rs: the calls that the firmware makes. Each answers with a number of document 01 on any arguments, table, header, lengths and words.
+// Get, the exported call: the state test, the argument tests, the routes. It answers with a number of document 01 on any arguments, table, header, lengths and words.
 use rules::Header;
 use rules::Name;
 use rules::Request;
@@ -14,7 +14,7 @@ ghost use Prim.Native.Nat.{ℕ};
 ghost use Rattle.ways.specs.declared.Granted.the-variants as Granted;
 ghost use Rattle.ways.specs.State.{ended};
 ghost use Rattle.ways.specs.Calls.{toldGet, close, frameOf};
-ghost use Rattle.ways.specs.Promises.{words, StartPromise, GetPromise, PutPromise, DrainPromise};
+ghost use Rattle.ways.specs.Promises.{words, GetPromise};
 
 // A refused get names no frame and no class.
 fn refused(x: Refusal) -> Reply
@@ -69,28 +69,6 @@ fn frame_of(name: Name) -> usize
     }
 }
 
-// A start, all free or all held.
-pub fn start(
-    h: Header,
-    table: &[u32; 64],
-    trees: &mut [u32],
-    locals: &mut [u64],
-    bits: &mut [u64],
-    free: bool,
-) -> Outcome
-    ensures { λ r. ⌜ StartPromise h (now (table .entry)) free (words (now (trees .entry)) (now (locals .entry)) (now (bits .entry)))
-        r (words (now (trees .exit)) (now (locals .exit)) (now (bits .exit))) ⌝ }
-{
-    if accept::accepts(h, table) {
-        if state::lengths_exact(h, table, trees, locals, bits) {
-            starts::start_body(h, trees, locals, bits, free);
-            return Outcome::Done;
-        }
-        return Outcome::Refused(Refusal::Config);
-    }
-    Outcome::Refused(Refusal::Config)
-}
-
 // A get, of the named frame or of any.
 pub fn get(
     h: Header,
@@ -111,46 +89,5 @@ pub fn get(
         }
     } else {
         refused(Refusal::Broken)
-    }
-}
-
-// A put of the block at a frame.
-pub fn put(
-    h: Header,
-    table: &[u32; 64],
-    trees: &mut [u32],
-    locals: &mut [u64],
-    bits: &mut [u64],
-    frame: usize,
-    q: Request,
-) -> Outcome
-    ensures { λ r. ⌜ PutPromise h (now (table .entry)) frame q (words (now (trees .entry)) (now (locals .entry)) (now (bits .entry)))
-        r (words (now (trees .exit)) (now (locals .exit)) (now (bits .exit))) ⌝ }
-{
-    if state::stands(h, table, trees, locals, bits) {
-        match checks::check(h, table, q, frame) {
-            Outcome::Done => puts::put_body(h, table, trees, locals, bits, q, frame),
-            Outcome::Refused(x) => Outcome::Refused(x),
-        }
-    } else {
-        Outcome::Refused(Refusal::Broken)
-    }
-}
-
-// Every reservation is returned.
-pub fn drain(
-    h: Header,
-    table: &[u32; 64],
-    trees: &mut [u32],
-    locals: &mut [u64],
-    bits: &mut [u64],
-) -> Outcome
-    ensures { λ r. ⌜ DrainPromise h (now (table .entry)) (words (now (trees .entry)) (now (locals .entry)) (now (bits .entry)))
-        r (words (now (trees .exit)) (now (locals .exit)) (now (bits .exit))) ⌝ }
-{
-    if state::stands(h, table, trees, locals, bits) {
-        drains::drain_body(h, table, trees, locals)
-    } else {
-        Outcome::Refused(Refusal::Broken)
     }
 }

@@ -1,14 +1,14 @@
--- `llfree::put` meets its contract. Assumes nothing.
-use mathlib.Core.Path.{sym, _∙_}
+-- `put::put` meets its contract. Assumes nothing.
+use mathlib.Core.Path.{refl, sym, _∙_}
 use Rattle.ways.specs.Calls.{numberOf}
 use Rattle.checks.specs.Checked.{checked-fits}
 use Rattle.step_laws.specs.Tested.{standing-accepted}
-use Rattle.llfree.specs.Refusals.{done-checked, refusal-told}
+use Rattle.checks.specs.Refusals.{done-checked, refusal-told}
 use Rattle.rules.specs.Base.{ifte}
 use Rattle.ways.specs.Calls.{put, ifStanding, unless, outcomeOf}
 use borrow.Author.Needs.{needs}
-use Rattle.llfree.proofs.put.Statement.{statement}
-use Rattle.llfree.proofs.put.Tie as tie
+use Rattle.put.proofs.put.Statement.{statement}
+use Rattle.put.proofs.put.Tie as tie
 
 stands-requires : tie.Need-stands-requires
 stands-requires c κs = search needs
@@ -28,13 +28,13 @@ enum-known-x : tie.Need-enum-known-x
 enum-known-x c = search needs
 
 same-length : tie.Need-same-length
-same-length c = search needs
+same-length c = c .before .before .before .before .before .before .put-body .kept .1 .1 .0
 
 same-length-2 : tie.Need-same-length-2
-same-length-2 c = search needs
+same-length-2 c = c .before .before .before .before .before .before .put-body .kept .1 .1 .1 .0
 
 same-length-3 : tie.Need-same-length-3
-same-length-3 c = search needs
+same-length-3 c = c .before .before .before .before .before .before .put-body .kept .1 .1 .1 .1 .0
 
 returns : tie.Need-returns
 unfolding put ifStanding ifte unless outcomeOf
@@ -48,13 +48,13 @@ returns c =
     )
 
 same-length-4 : tie.Need-same-length-4
-same-length-4 c = search needs
+same-length-4 c = refl
 
 same-length-5 : tie.Need-same-length-5
-same-length-5 c = search needs
+same-length-5 c = refl
 
 same-length-6 : tie.Need-same-length-6
-same-length-6 c = search needs
+same-length-6 c = refl
 
 returns-2 : tie.Need-returns-2
 unfolding put ifStanding ifte outcomeOf
@@ -68,13 +68,13 @@ returns-2 c =
     )
 
 same-length-7 : tie.Need-same-length-7
-same-length-7 c = search needs
+same-length-7 c = refl
 
 same-length-8 : tie.Need-same-length-8
-same-length-8 c = search needs
+same-length-8 c = refl
 
 same-length-9 : tie.Need-same-length-9
-same-length-9 c = search needs
+same-length-9 c = refl
 
 returns-3 : tie.Need-returns-3
 unfolding put ifStanding ifte outcomeOf numberOf

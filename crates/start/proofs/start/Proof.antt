@@ -1,13 +1,13 @@
--- `llfree::start` meets its contract. Assumes nothing.
-use mathlib.Core.Path.{sym, ap, _∙_}
+-- `start::start` meets its contract. Assumes nothing.
+use mathlib.Core.Path.{refl, sym, ap, _∙_}
 use Rattle.ways.specs.State.{State}
 use Rattle.ways.specs.Calls.{telling, outcomeOf, numberOf}
 use Rattle.step_laws.specs.Tested.{lengths-say, frames-small}
 use Rattle.rules.specs.Base.{ifte}
 use Rattle.ways.specs.Calls.{start}
 use borrow.Author.Needs.{needs}
-use Rattle.llfree.proofs.start.Statement.{statement}
-use Rattle.llfree.proofs.start.Tie as tie
+use Rattle.start.proofs.start.Statement.{statement}
+use Rattle.start.proofs.start.Tie as tie
 
 accepts-requires : tie.Need-accepts-requires
 accepts-requires c κs = search needs
@@ -21,13 +21,13 @@ start-body-requires c κs =
     (frames-small _ _ (sym (c .before .before .before .before .before .before .before .before .before .accepts .ensures) ∙ c .before .before .before .before .before .before .before .before .if1 .taken), (l .treeWords, (l .localWords, l .bitWords)))
 
 same-length : tie.Need-same-length
-same-length c = search needs
+same-length c = c .before .before .before .before .before .before .start-body .kept .1 .0
 
 same-length-2 : tie.Need-same-length-2
-same-length-2 c = search needs
+same-length-2 c = c .before .before .before .before .before .before .start-body .kept .1 .1 .0
 
 same-length-3 : tie.Need-same-length-3
-same-length-3 c = search needs
+same-length-3 c = c .before .before .before .before .before .before .start-body .kept .1 .1 .1 .0
 
 returns : tie.Need-returns
 unfolding start ifte outcomeOf
@@ -41,13 +41,13 @@ returns c =
     (ap (λ (s : State). telling 0 0 0 s) (c .before .before .before .before .before .before .start-body .ensures _))
 
 same-length-4 : tie.Need-same-length-4
-same-length-4 c = search needs
+same-length-4 c = refl
 
 same-length-5 : tie.Need-same-length-5
-same-length-5 c = search needs
+same-length-5 c = refl
 
 same-length-6 : tie.Need-same-length-6
-same-length-6 c = search needs
+same-length-6 c = refl
 
 returns-2 : tie.Need-returns-2
 unfolding start ifte outcomeOf numberOf

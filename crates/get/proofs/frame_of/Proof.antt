@@ -1,8 +1,8 @@
--- `llfree::frame_of` meets its contract. Assumes nothing.
+-- `get::frame_of` meets its contract. Assumes nothing.
 use Rattle.ways.specs.Calls.{frameOf}
 use borrow.Author.Needs.{needs}
-use Rattle.llfree.proofs.frame_of.Statement.{statement}
-use Rattle.llfree.proofs.frame_of.Tie as tie
+use Rattle.get.proofs.frame_of.Statement.{statement}
+use Rattle.get.proofs.frame_of.Tie as tie
 
 enum-told : tie.Need-enum-told
 enum-told c = search needs

@@ -1,12 +1,12 @@
--- `llfree::drain` meets its contract. Assumes nothing.
-use mathlib.Core.Path.{sym, _∙_}
+-- `drain::drain` meets its contract. Assumes nothing.
+use mathlib.Core.Path.{refl, sym, _∙_}
 use Rattle.ways.specs.Calls.{outcomeOf, numberOf}
 use Rattle.step_laws.specs.Tested.{standing-accepted, default-small}
 use Rattle.rules.specs.Base.{ifte}
 use Rattle.ways.specs.Calls.{drain, ifStanding}
 use borrow.Author.Needs.{needs}
-use Rattle.llfree.proofs.drain.Statement.{statement}
-use Rattle.llfree.proofs.drain.Tie as tie
+use Rattle.drain.proofs.drain.Statement.{statement}
+use Rattle.drain.proofs.drain.Tie as tie
 
 stands-requires : tie.Need-stands-requires
 stands-requires c κs = search needs
@@ -16,13 +16,13 @@ drain-body-requires c κs =
     default-small _ _ (standing-accepted _ _ _ _ (sym (c .before .before .before .stands .ensures) ∙ c .before .before .if1 .taken))
 
 same-length : tie.Need-same-length
-same-length c = search needs
+same-length c = c .before .before .before .before .drain-body .kept .1 .1 .0
 
 same-length-2 : tie.Need-same-length-2
-same-length-2 c = search needs
+same-length-2 c = c .before .before .before .before .drain-body .kept .1 .1 .1 .0
 
 same-length-3 : tie.Need-same-length-3
-same-length-3 c = search needs
+same-length-3 c = refl
 
 returns : tie.Need-returns
 unfolding drain ifStanding ifte
@@ -34,13 +34,13 @@ returns c =
     (c .before .before .before .before .drain-body .ensures _)
 
 same-length-4 : tie.Need-same-length-4
-same-length-4 c = search needs
+same-length-4 c = refl
 
 same-length-5 : tie.Need-same-length-5
-same-length-5 c = search needs
+same-length-5 c = refl
 
 same-length-6 : tie.Need-same-length-6
-same-length-6 c = search needs
+same-length-6 c = refl
 
 returns-2 : tie.Need-returns-2
 unfolding drain ifStanding ifte outcomeOf numberOf

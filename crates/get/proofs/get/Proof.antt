@@ -1,14 +1,14 @@
--- `llfree::get` meets its contract. Assumes nothing.
-use mathlib.Core.Path.{sym, _∙_}
+-- `get::get` meets its contract. Assumes nothing.
+use mathlib.Core.Path.{refl, sym, _∙_}
 use Rattle.ways.specs.Calls.{numberOf}
 use Rattle.checks.specs.Checked.{checked-fits}
 use Rattle.step_laws.specs.Tested.{standing-accepted}
-use Rattle.llfree.specs.Refusals.{done-checked, refusal-told}
+use Rattle.checks.specs.Refusals.{done-checked, refusal-told}
 use Rattle.rules.specs.Base.{ifte}
 use Rattle.ways.specs.Calls.{get, ifStanding, unless, outcomeOf, tellGet}
 use borrow.Author.Needs.{needs}
-use Rattle.llfree.proofs.get.Statement.{statement}
-use Rattle.llfree.proofs.get.Tie as tie
+use Rattle.get.proofs.get.Statement.{statement}
+use Rattle.get.proofs.get.Tie as tie
 
 stands-requires : tie.Need-stands-requires
 stands-requires c κs = search needs
@@ -40,13 +40,13 @@ refused-requires-2 : tie.Need-refused-requires-2
 refused-requires-2 c κs = search needs
 
 same-length : tie.Need-same-length
-same-length c = search needs
+same-length c = c .before .before .before .before .before .before .before .routes .kept .1 .1 .0
 
 same-length-2 : tie.Need-same-length-2
-same-length-2 c = search needs
+same-length-2 c = c .before .before .before .before .before .before .before .routes .kept .1 .1 .1 .0
 
 same-length-3 : tie.Need-same-length-3
-same-length-3 c = search needs
+same-length-3 c = c .before .before .before .before .before .before .before .routes .kept .1 .1 .1 .1 .0
 
 returns : tie.Need-returns
 unfolding get ifStanding ifte unless outcomeOf tellGet
@@ -62,13 +62,13 @@ returns c =
     (c .reply .ensures _ _ _)
 
 same-length-4 : tie.Need-same-length-4
-same-length-4 c = search needs
+same-length-4 c = refl
 
 same-length-5 : tie.Need-same-length-5
-same-length-5 c = search needs
+same-length-5 c = refl
 
 same-length-6 : tie.Need-same-length-6
-same-length-6 c = search needs
+same-length-6 c = refl
 
 returns-2 : tie.Need-returns-2
 unfolding get ifStanding ifte outcomeOf tellGet
@@ -84,13 +84,13 @@ returns-2 c =
     )
 
 same-length-7 : tie.Need-same-length-7
-same-length-7 c = search needs
+same-length-7 c = refl
 
 same-length-8 : tie.Need-same-length-8
-same-length-8 c = search needs
+same-length-8 c = refl
 
 same-length-9 : tie.Need-same-length-9
-same-length-9 c = search needs
+same-length-9 c = refl
 
 returns-3 : tie.Need-returns-3
 unfolding get ifStanding ifte outcomeOf tellGet numberOf

@@ -1,2 +1,0 @@
--- how a refusal is told
-pub mod Refusals
