@@ -1,2 +1,2 @@
--- what the tests that were made before give; the definitions are in `rules` and `ways`
-pub mod Exact
+-- what the test of the locals gives to that of their trees
+pub mod Inside

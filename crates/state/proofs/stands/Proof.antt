@@ -1,6 +1,8 @@
 -- `state::stands` meets its contract. Assumes nothing.
 use mathlib.Core.Path.{sym, _∙_}
-use Rattle.state.specs.Exact.{frames-most, exact-says, locals-say, inside-few}
+use Rattle.step_laws.specs.Tested.{lengths-say}
+use Rattle.lengths.specs.Exact.{frames-most, exact-says}
+use Rattle.state.specs.Inside.{inside-few}
 use Rattle.ways.specs.Standing.{standing, pastHeld}
 use borrow.Author.Tests.{eq-eqb, ne-eqb}
 use borrow.Author.Needs.{needs}
@@ -48,7 +50,7 @@ returns c =
       c .before .before .before .before .before .before .before .before .if3 .taken,
       ← c .before .before .before .before .before .before .before .locals-stand .ensures,
       c .before .before .before .before .before .before .if4 .taken,
-      ← locals-say _ _ _ _ (sym (c .before .before .before .before .before .before .before .before .before .before .before .lengths-exact .ensures) ∙ c .before .before .before .before .before .before .before .before .before .before .if2 .taken),
+      ← lengths-say _ _ _ _ (sym (c .before .before .before .before .before .before .before .before .before .before .before .lengths-exact .ensures) ∙ c .before .before .before .before .before .before .before .before .before .before .if2 .taken) .localWords,
       ← c .before .before .before .before .before .apart .ensures,
       c .before .before .before .before .if5 .taken,
       ← c .before .before .before .reserved-count .ensures,
@@ -71,7 +73,7 @@ returns-2 c =
       c .before .before .before .before .before .before .before .if3 .taken,
       ← c .before .before .before .before .before .before .locals-stand .ensures,
       c .before .before .before .before .before .if4 .taken,
-      ← locals-say _ _ _ _ (sym (c .before .before .before .before .before .before .before .before .before .before .lengths-exact .ensures) ∙ c .before .before .before .before .before .before .before .before .before .if2 .taken),
+      ← lengths-say _ _ _ _ (sym (c .before .before .before .before .before .before .before .before .before .before .lengths-exact .ensures) ∙ c .before .before .before .before .before .before .before .before .before .if2 .taken) .localWords,
       ← c .before .before .before .before .apart .ensures,
       c .before .before .before .if5 .taken,
       ← c .before .before .reserved-count .ensures,
@@ -93,7 +95,7 @@ returns-3 c =
       c .before .before .before .before .if3 .taken,
       ← c .before .before .before .locals-stand .ensures,
       c .before .before .if4 .taken,
-      ← locals-say _ _ _ _ (sym (c .before .before .before .before .before .before .before .lengths-exact .ensures) ∙ c .before .before .before .before .before .before .if2 .taken),
+      ← lengths-say _ _ _ _ (sym (c .before .before .before .before .before .before .before .lengths-exact .ensures) ∙ c .before .before .before .before .before .before .if2 .taken) .localWords,
       ← c .before .apart .ensures,
       c .if5 .left,
     )

@@ -1,4 +1,4 @@
--- `state::entries_stand` meets its contract. The invariant: the test passes at every tree passed. The measure: the trees left. Assumes nothing.
+-- `entry_rules::entries_stand` meets its contract. The invariant: the test passes at every tree passed. The measure: the trees left. Assumes nothing.
 use mathlib.Core.Path.{_≡_, sym, _∙_}
 use mathlib.Core.Bool.{true}
 use Prim.Native.Nat.{_≤_, _-_}
@@ -9,8 +9,8 @@ use Rattle.rules.specs.Base.{allBelow}
 use Rattle.rules.specs.Words.{config}
 use Rattle.ways.specs.Standing.{entryStands}
 use Rattle.policy_laws.specs.All.{all-none, all-more, all-fails, all-done}
-use Rattle.state.proofs.entries_stand.Statement.{statement}
-use Rattle.state.proofs.entries_stand.Tie as tie
+use Rattle.entry_rules.proofs.entries_stand.Statement.{statement}
+use Rattle.entry_rules.proofs.entries_stand.Tie as tie
 
 abbrev Inv-loop : tie.InvT-loop
 Inv-loop h table trees bits places t₀ t = (t ≤ length trees) × (allBelow t (entryStands (config h table) trees bits) ≡ true)

@@ -1,11 +1,11 @@
--- `state::lengths_exact` meets its contract. Assumes nothing.
+-- `lengths::lengths_exact` meets its contract. Assumes nothing.
 use native.Mathlib.Omega.{arith}
 use Rattle.rules.specs.Words.{treeCount}
 use Rattle.ways.specs.Standing.{lengthsExact}
 use borrow.Author.Tests.{eq-eqb, ne-eqb}
 use borrow.Author.Needs.{needs}
-use Rattle.state.proofs.lengths_exact.Statement.{statement}
-use Rattle.state.proofs.lengths_exact.Tie as tie
+use Rattle.lengths.proofs.lengths_exact.Statement.{statement}
+use Rattle.lengths.proofs.lengths_exact.Tie as tie
 
 tree-count-requires : tie.Need-tree-count-requires
 tree-count-requires c κs = search needs

@@ -1,4 +1,4 @@
--- `state::class_stands` meets its contract. The invariant: the test passes at every local passed. The measure: the locals left. Assumes nothing.
+-- `local_rules::class_stands` meets its contract. The invariant: the test passes at every local passed. The measure: the locals left. Assumes nothing.
 use mathlib.Core.Path.{_≡_, sym, _∙_}
 use mathlib.Core.Bool.{true}
 use Prim.Native.Nat.{_≤_, _-_, _+_}
@@ -9,8 +9,8 @@ use Rattle.rules.specs.Base.{allBelow}
 use Rattle.rules.specs.Words.{config, slot}
 use Rattle.ways.specs.Standing.{localStands, classStands}
 use Rattle.policy_laws.specs.All.{all-none, all-more, all-fails, all-done}
-use Rattle.state.proofs.class_stands.Statement.{statement}
-use Rattle.state.proofs.class_stands.Tie as tie
+use Rattle.local_rules.proofs.class_stands.Statement.{statement}
+use Rattle.local_rules.proofs.class_stands.Tie as tie
 
 abbrev Inv-loop : tie.InvT-loop
 Inv-loop h table trees locals bits class first len index₀ index =

@@ -1,4 +1,4 @@
--- `state::locals_stand` meets its contract. The invariant: the test passes at every class passed, and `first` is the number of their locals. The measure: the classes left. Assumes nothing.
+-- `local_rules::locals_stand` meets its contract. The invariant: the test passes at every class passed, and `first` is the number of their locals. The measure: the classes left. Assumes nothing.
 use mathlib.Core.Path.{_≡_, sym, _∙_}
 use mathlib.Core.Bool.{true}
 use Prim.Native.Nat.{_≤_, _-_, _*_}
@@ -10,8 +10,8 @@ use Rattle.rules.specs.Words.{config, localsOf}
 use Rattle.ways.specs.Standing.{classStands}
 use Rattle.policy_laws.specs.All.{all-none, all-more, all-fails, all-done}
 use Rattle.words.specs.Sums.{sum-none, sum-more}
-use Rattle.state.proofs.locals_stand.Statement.{statement}
-use Rattle.state.proofs.locals_stand.Tie as tie
+use Rattle.local_rules.proofs.locals_stand.Statement.{statement}
+use Rattle.local_rules.proofs.locals_stand.Tie as tie
 
 abbrev Inv-loop : tie.InvT-loop
 Inv-loop h table trees locals bits places first₀ class₀ first class =

@@ -1,11 +1,11 @@
--- `state::entry_stands` meets its contract. Assumes nothing.
+-- `entry_rules::entry_stands` meets its contract. Assumes nothing.
 use mathlib.Core.Path.{ap, _∙_}
 use Rattle.rules.specs.Words.{configured}
 use Rattle.ways.specs.Standing.{entryStands}
 use borrow.Author.Tests.{le-leb, lt-leb}
 use borrow.Author.Needs.{needs}
-use Rattle.state.proofs.entry_stands.Statement.{statement}
-use Rattle.state.proofs.entry_stands.Tie as tie
+use Rattle.entry_rules.proofs.entry_stands.Statement.{statement}
+use Rattle.entry_rules.proofs.entry_stands.Tie as tie
 
 load-requires : tie.Need-load-requires
 load-requires c κs = search needs

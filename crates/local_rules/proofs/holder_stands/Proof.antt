@@ -1,10 +1,10 @@
--- `state::holder_stands` meets its contract. Assumes nothing.
+-- `local_rules::holder_stands` meets its contract. Assumes nothing.
 use Rattle.rules.specs.Policy.{good}
 use Rattle.ways.specs.Standing.{holderStands}
 use borrow.Author.Tests.{le-leb, le-ltb, lt-leb, lt-ltb}
 use borrow.Author.Needs.{needs}
-use Rattle.state.proofs.holder_stands.Statement.{statement}
-use Rattle.state.proofs.holder_stands.Tie as tie
+use Rattle.local_rules.proofs.holder_stands.Statement.{statement}
+use Rattle.local_rules.proofs.holder_stands.Tie as tie
 
 tree-count-requires : tie.Need-tree-count-requires
 tree-count-requires c κs = search needs

@@ -1,10 +1,10 @@
--- `state::local_stands` meets its contract. Assumes nothing.
+-- `local_rules::local_stands` meets its contract. Assumes nothing.
 use mathlib.Core.Path.{sym, _∙_}
 use Rattle.policy_laws.specs.All.{pick-true}
 use Rattle.ways.specs.Standing.{localStands}
 use borrow.Author.Needs.{needs}
-use Rattle.state.proofs.local_stands.Statement.{statement}
-use Rattle.state.proofs.local_stands.Tie as tie
+use Rattle.local_rules.proofs.local_stands.Statement.{statement}
+use Rattle.local_rules.proofs.local_stands.Tie as tie
 
 load-requires : tie.Need-load-requires
 load-requires c κs = search needs

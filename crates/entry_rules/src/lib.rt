@@ -1,0 +1,50 @@
+// The standing rules of the entries: one pass over them and the bitmap.
+use rules::Header;
+ghost use mathlib.Core.Path.{_≡_};
+ghost use Prim.Native.Nat.{_+_, _*_, _≤_};
+ghost use lib.ListN.{length};
+ghost use Rattle.rules.specs.Base.{allBelow};
+ghost use Rattle.rules.specs.Words.{config};
+ghost use Rattle.ways.specs.Standing.{entryStands};
+ghost use Rattle.lengths.specs.Exact.{Exact};
+
+// Entry free at most 2,048, class configured; with no reservation entry free is the number of clear bits.
+fn entry_stands(
+    h: Header,
+    places: &[u8; 8],
+    table: &[u32; 64],
+    trees: &[u32],
+    bits: &[u64],
+    t: usize,
+) -> bool
+    requires { ⌜ (now places ≡ h .places) × (t * 32 + 32 ≤ length (now bits)) ⌝ }
+    ensures { λ r. ⌜ r ≡ entryStands (config h (now (table .entry))) (now (trees .entry)) (now (bits .entry)) t ⌝ }
+{
+    let e = trees::load(trees, t);
+    if e.free <= 2048 {
+        if words::has_place(places, e.class) {
+            if e.reserved {
+                return true;
+            }
+            return e.free == bits::clear_in(bits, t);
+        }
+        return false;
+    }
+    false
+}
+
+// Each entry stands.
+pub fn entries_stand(h: Header, table: &[u32; 64], trees: &[u32], bits: &[u64]) -> bool
+    requires { ⌜ Exact (config h (now table)) (now trees) (now bits) ⌝ }
+    ensures { λ r. ⌜ r ≡ allBelow (length (now (trees .entry))) (entryStands (config h (now (table .entry))) (now (trees .entry)) (now (bits .entry))) ⌝ }
+{
+    let places = h.places;
+    let mut t: usize = 0;
+    while t < trees.len() {
+        if !entry_stands(h, &places, table, trees, bits, t) {
+            return false;
+        }
+        t += 1;
+    }
+    true
+}

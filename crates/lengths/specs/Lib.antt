@@ -1,0 +1,2 @@
+-- what exact lengths are
+pub mod Exact

@@ -1,0 +1,105 @@
+// The standing rules of the locals, by class, then index.
+use rules::Header;
+use rules::Local;
+ghost use mathlib.Core.Path.{_≡_};
+ghost use Prim.Native.Nat.{_^_, _<_};
+ghost use Rattle.rules.specs.Base.{allBelow, sum};
+ghost use Rattle.rules.specs.Words.{config, localsOf};
+ghost use Rattle.ways.specs.Standing.{holderStands, localStands, classStands};
+ghost use Rattle.lengths.specs.Exact.{Exact};
+
+// Of a present local: its tree exists, the entry is reserved, the pair good, and entry free plus its free the number of clear bits.
+fn holder_stands(
+    h: Header,
+    table: &[u32; 64],
+    trees: &[u32],
+    bits: &[u64],
+    class: usize,
+    l: Local,
+) -> bool
+    requires { ⌜ Exact (config h (now table)) (now trees) (now bits) × ((class < 8) × (l .free < 2 ^ 19)) ⌝ }
+    ensures { λ r. ⌜ r ≡ holderStands (config h (now (table .entry))) (now (trees .entry)) (now (bits .entry)) class l ⌝ }
+{
+    let t = l.row / 32;
+    if t < words::tree_count(h.frames) {
+        let e = trees::load(trees, t);
+        if e.reserved {
+            if 2 <= words::kind_at(h, table, class, e.class) {
+                return e.free + l.free == bits::clear_in(bits, t);
+            }
+            return false;
+        }
+        return false;
+    }
+    false
+}
+
+// A present local stands as a holder, an absent one is the word 0.
+fn local_stands(
+    h: Header,
+    table: &[u32; 64],
+    trees: &[u32],
+    locals: &[u64],
+    bits: &[u64],
+    class: usize,
+    j: usize,
+) -> bool
+    requires { ⌜ Exact (config h (now table)) (now trees) (now bits) × (class < 8) ⌝ }
+    ensures { λ r. ⌜ r ≡ localStands (config h (now (table .entry))) (now (trees .entry)) (now (locals .entry)) (now (bits .entry)) class j ⌝ }
+{
+    let l = local::load(locals, j);
+    if l.present {
+        return holder_stands(h, table, trees, bits, class, l);
+    }
+    local::word(locals, j) == 0
+}
+
+// The locals of a class, from its first place on.
+fn class_stands(
+    h: Header,
+    table: &[u32; 64],
+    trees: &[u32],
+    locals: &[u64],
+    bits: &[u64],
+    class: usize,
+    first: usize,
+    len: usize,
+) -> bool
+    requires { ⌜ Exact (config h (now table)) (now trees) (now bits) × ((class < 8) × ((first < 2 ^ 32) × (first ≡ sum (localsOf (h .places)) 0 class))) ⌝ }
+    requires { ⌜ (len ≡ localsOf (h .places) class) × (len < 256) ⌝ }
+    ensures { λ r. ⌜ r ≡ classStands (config h (now (table .entry))) (now (trees .entry)) (now (locals .entry)) (now (bits .entry)) class ⌝ }
+{
+    let mut index: usize = 0;
+    while index < len {
+        if !local_stands(h, table, trees, locals, bits, class, first + index) {
+            return false;
+        }
+        index += 1;
+    }
+    true
+}
+
+// The locals of all classes.
+pub fn locals_stand(
+    h: Header,
+    table: &[u32; 64],
+    trees: &[u32],
+    locals: &[u64],
+    bits: &[u64],
+) -> bool
+    requires { ⌜ Exact (config h (now table)) (now trees) (now bits) ⌝ }
+    ensures { λ r. ⌜ r ≡ allBelow 8 (classStands (config h (now (table .entry))) (now (trees .entry)) (now (locals .entry)) (now (bits .entry))) ⌝ }
+{
+    let places = h.places;
+    let mut first: usize = 0;
+    let mut class: usize = 0;
+    while class < 8 {
+        let len = words::locals_in(&places, class);
+        if !class_stands(h, table, trees, locals, bits, class, first, len) {
+            return false;
+        }
+        first += len;
+        class += 1;
+    }
+    true
+}
