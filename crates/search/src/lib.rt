@@ -39,7 +39,7 @@ fn search_far(
         first: 0,
         last: n,
     };
-    walk::search_best(
+    search_best::search_best(
         h,
         table,
         trees,
@@ -82,7 +82,7 @@ fn search_near(
         first: 1,
         last: last,
     };
-    walk::search_best(
+    search_best::search_best(
         h,
         table,
         trees,
@@ -174,7 +174,7 @@ pub fn search_and_steal(
         first: 0,
         last: n,
     };
-    walk::search_best(
+    search_best::search_best(
         h,
         table,
         trees,

@@ -1,4 +1,4 @@
--- `walk::try_list` meets its contract: at each turn the list from here is the list from the start. Assumes nothing.
+-- `lists::try_list` meets its contract: at each turn the list from here is the list from the start. Assumes nothing.
 use borrow.Author.Needs.{needs}
 use mathlib.Core.Path.{_≡_, refl, sym, _∙_}
 use mathlib.Core.List.{List}
@@ -10,8 +10,8 @@ use Rattle.ways.specs.State.{st}
 use Rattle.ways.specs.Walk.{tryList}
 use Rattle.best.specs.List.{listOf, listFrom, from-first, from-none, from-more, from-end}
 use Rattle.ends.specs.Ends.{else-ends, else-goes}
-use Rattle.walk.proofs.try_list.Statement.{statement}
-use Rattle.walk.proofs.try_list.Tie as tie
+use Rattle.lists.proofs.try_list.Statement.{statement}
+use Rattle.lists.proofs.try_list.Tie as tie
 
 -- the trees tried, the counts, the lengths; the list from here is the list from the start
 record Inv (m looks tries : ℕ) (best trees₀ locals₀ bits₀ trees locals bits : List ℕ) (seen asked k : ℕ) (same : Type 0) : Type 0 where

@@ -1,4 +1,4 @@
--- `walk::search_best` meets its contract: at each turn the walk from here is the walk from the start; a tree that ends it ends the search, else the
+-- `search_best::search_best` meets its contract: at each turn the walk from here is the walk from the start; a tree that ends it ends the search, else the
 -- list is tried. Assumes nothing.
 use mathlib.Core.Path.{_≡_, sym, _∙_}
 use mathlib.Core.List.{List, []}
@@ -11,9 +11,9 @@ use Rattle.ways.specs.State.{st}
 use Rattle.ways.specs.Walk.{place, rate, onSight, walk, stopped, searchBest}
 use Rattle.best.specs.List.{listOf, list-empty}
 use Rattle.ends.specs.Ends.{sight-ends}
 use Rattle.walk.specs.Walked.{walk-end, walk-ends, walk-goes}
-use Rattle.walk.proofs.search_best.Statement.{statement}
-use Rattle.walk.proofs.search_best.Tie as tie
+use Rattle.search_best.proofs.search_best.Statement.{statement}
+use Rattle.search_best.proofs.search_best.Tie as tie
 
 -- the step, the counts, the lengths; the walk from here is the walk from the start; the tree here is tried at once
 record Inv (first last looks tries : ℕ) (trees₀ locals₀ bits₀ trees locals bits : List ℕ) (at seen asked : ℕ) (same now : Type 0) : Type 0 where

@@ -1,0 +1,64 @@
+// llfree.rs and trees.rs, search_best: a walk over the trees, what is tried at once, and then the list of the best.
+use rules::Header;
+use rules::Request;
+use walk::Path;
+use ways::Routed;
+use ways::Walk;
+ghost use mathlib.Core.Path.{_≡_};
+ghost use Prim.Native.Nat.{_+_, _^_, _<_, _≤_};
+ghost use Rattle.rules.specs.Words.{config};
+ghost use Rattle.ways.specs.State.{st, ended};
+ghost use Rattle.ways.specs.Walk.{searchBest};
+ghost use Rattle.ways.specs.Fits.{Fits};
+
+// A walk, then its list.
+pub fn search_best(
+    h: Header,
+    table: &[u32; 64],
+    trees: &mut [u32],
+    locals: &mut [u64],
+    bits: &mut [u64],
+    q: Request,
+    w: Walk,
+    j: usize,
+    p: Path,
+    looks: usize,
+    tries: usize,
+) -> Routed
+    requires { ⌜ Fits h q × ((p .m ≤ 8) × (((0 < p .n) × (p .n ≤ 1024)) × ((p .start < 2 ^ 44) × ((p .last ≤ 1024) × ((looks < 2 ^ 30) × (tries < 2 ^ 30)))))) ⌝ }
+    ensures { λ r. ⌜ (ended r (now (trees .exit)) (now (locals .exit)) (now (bits .exit))
+        ≡ searchBest (config h (now (table .entry))) q w j (p .m) (p .n) (p .start) (p .first) (p .last) (st (now (trees .entry)) (now (locals .entry)) (now (bits .entry)) looks tries))
+        × ((r .looks ≤ looks + p .last) × (r .tries ≤ tries + (p .last + p .m))) ⌝ }
+{
+    let mut asked = tries;
+    let mut s = walk::walk_on(h, table, trees, q, w, p, p.first, [0; 8], looks);
+    while s.at < p.last {
+        let t = best::place(p.n, p.start, s.at);
+        let seen = s.looks + 1;
+        let a = steal::access(h, table, trees, locals, bits, q, w, j, t, seen, asked);
+        let got = a.got;
+        if ends::ends(got) {
+            return a;
+        }
+        asked = a.tries;
+        let list = s.best;
+        let next = walk::walk_on(h, table, trees, q, w, p, s.at + 1, list, a.looks);
+        s = next;
+    }
+    let list = s.best;
+    let seen = s.looks;
+    lists::try_list(
+        h,
+        table,
+        trees,
+        locals,
+        bits,
+        q,
+        w,
+        j,
+        p.m,
+        list,
+        seen,
+        asked,
+    )
+}
