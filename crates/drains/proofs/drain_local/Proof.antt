@@ -1,4 +1,5 @@
 -- `drains::drain_local` meets its contract. Assumes nothing.
+use native.Mathlib.Omega.{arith}
 use Rattle.drains.specs.Loops.{drainOne}
 use Rattle.steps.specs.Returned.{local-returned, returned-alone}
 use Rattle.ways.specs.State.{onSwap, withLocals, withTrees}
@@ -13,10 +14,10 @@ unreserve-local-requires : tie.Need-unreserve-local-requires
 unreserve-local-requires c κs = search needs
 
 same-length : tie.Need-same-length
-same-length c = search needs
+same-length c = omega (arith, c .before .before .unreserve-local .kept, c .before .before .before .before .before .before .clear .kept)
 
 same-length-2 : tie.Need-same-length-2
-same-length-2 c = search needs
+same-length-2 c = omega (arith, c .before .before .unreserve-local .kept, c .before .before .before .before .before .before .clear .kept)
 
 returns : tie.Need-returns
 unfolding drainOne onSwap withTrees withLocals

@@ -1,4 +1,5 @@
 -- `own::at_row` meets its contract. Assumes nothing.
+use native.Mathlib.Omega.{arith}
 use Rattle.ways.specs.State.{onFound, putEntry, setRow, withLocals, withTrees, withTry}
 use Rattle.own.specs.Own.{atRow}
 use borrow.Author.Needs.{needs}
@@ -39,10 +40,10 @@ missed-at-requires : tie.Need-missed-at-requires
 missed-at-requires c κs = search needs
 
 same-length : tie.Need-same-length
-same-length c = search needs
+same-length c = omega (arith, c .before .before .before .set-start .kept, c .before .before .before .before .before .before .before .before .before .before .lower-get .kept)
 
 same-length-2 : tie.Need-same-length-2
-same-length-2 c = search needs
+same-length-2 c = omega (arith, c .before .before .before .set-start .kept, c .before .before .before .before .before .before .before .before .before .before .lower-get .kept)
 
 returns : tie.Need-returns
 unfolding atRow onFound putEntry setRow withTrees withLocals withTry
@@ -56,10 +57,10 @@ returns c = (
 )
 
 same-length-3 : tie.Need-same-length-3
-same-length-3 c = search needs
+same-length-3 c = omega (arith, c .before .before .before .put .kept, c .before .before .before .before .before .before .before .before .before .before .lower-get .kept)
 
 same-length-4 : tie.Need-same-length-4
-same-length-4 c = search needs
+same-length-4 c = omega (arith, c .before .before .before .put .kept, c .before .before .before .before .before .before .before .before .before .before .lower-get .kept)
 
 returns-2 : tie.Need-returns-2
 unfolding atRow onFound putEntry setRow withTrees withLocals withTry

@@ -1,4 +1,5 @@
 -- `own::topped` meets its contract. Assumes nothing.
+use native.Mathlib.Omega.{arith}
 use Rattle.rules.specs.Base.{ifte}
 use Rattle.ways.specs.State.{onPut, onSync, putEntry, withLocals, withTrees}
 use Rattle.own.specs.Own.{topped}
@@ -24,10 +25,10 @@ put-requires : tie.Need-put-requires
 put-requires c κs = search needs
 
 same-length : tie.Need-same-length
-same-length c = search needs
+same-length c = omega (arith, c .before .before .before .put .kept, c .before .before .before .before .before .before .before .before .before .before .sync .kept)
 
 same-length-2 : tie.Need-same-length-2
-same-length-2 c = search needs
+same-length-2 c = omega (arith, c .before .before .before .put .kept, c .before .before .before .before .before .before .before .before .before .before .sync .kept)
 
 returns-2 : tie.Need-returns-2
 unfolding topped onSync onPut putEntry withTrees withLocals ifte
@@ -49,10 +50,10 @@ enum-told : tie.Need-enum-told
 enum-told c = search needs
 
 same-length-3 : tie.Need-same-length-3
-same-length-3 c = search needs
+same-length-3 c = omega (arith, c .before .before .put2 .kept, c .before .before .before .before .before .before .before .put .kept, c .before .before .before .before .before .before .before .before .before .before .before .before .before .before .sync .kept)
 
 same-length-4 : tie.Need-same-length-4
-same-length-4 c = search needs
+same-length-4 c = omega (arith, c .before .before .put2 .kept, c .before .before .before .before .before .before .before .put .kept, c .before .before .before .before .before .before .before .before .before .before .before .before .before .before .sync .kept)
 
 returns-3 : tie.Need-returns-3
 unfolding topped onSync onPut putEntry withTrees withLocals ifte
@@ -66,7 +67,7 @@ returns-3 c = λ b looks tries. rw (
 )
 
 same-length-5 : tie.Need-same-length-5
-same-length-5 c = search needs
+same-length-5 c = omega (arith, c .before .before .before .before .sync .kept)
 
 returns-4 : tie.Need-returns-4
 unfolding topped onSync onPut putEntry withTrees withLocals ifte

@@ -1,4 +1,5 @@
 -- `puts::put_body` meets its contract. Assumes nothing.
+use native.Mathlib.Omega.{arith}
 use Rattle.ways.specs.Calls.{onGiven, outcomeOf, numberOf}
 use Rattle.ways.specs.State.{withBits}
 use borrow.Author.Needs.{needs}
@@ -12,13 +13,13 @@ put-to-requires : tie.Need-put-to-requires
 put-to-requires c κs = search needs
 
 same-length : tie.Need-same-length
-same-length c = search needs
+same-length c = omega (arith, c .before .before .before .before .put-to .kept, c .before .before .before .before .before .before .before .before .before .before .lower-put .kept)
 
 same-length-2 : tie.Need-same-length-2
-same-length-2 c = search needs
+same-length-2 c = omega (arith, c .before .before .before .before .put-to .kept, c .before .before .before .before .before .before .before .before .before .before .lower-put .kept)
 
 same-length-3 : tie.Need-same-length-3
-same-length-3 c = search needs
+same-length-3 c = omega (arith, c .before .before .before .before .put-to .kept, c .before .before .before .before .before .before .before .before .before .before .lower-put .kept)
 
 returns : tie.Need-returns
 unfolding onGiven outcomeOf numberOf withBits
@@ -30,7 +31,7 @@ returns c =
     )
 
 same-length-4 : tie.Need-same-length-4
-same-length-4 c = search needs
+same-length-4 c = omega (arith, c .before .before .before .lower-put .kept)
 
 returns-2 : tie.Need-returns-2
 unfolding onGiven outcomeOf numberOf withBits

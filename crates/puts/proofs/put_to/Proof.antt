@@ -31,7 +31,7 @@ put-requires-2 : tie.Need-put-requires-2
 put-requires-2 c κs = search needs
 
 same-length : tie.Need-same-length
-same-length c = search needs
+same-length c = omega (arith, c .before .before .before .put2 .kept)
 
 returns : tie.Need-returns
 unfolding putTo onPut putEntry withTrees withLocals
@@ -48,7 +48,7 @@ put-requires-3 : tie.Need-put-requires-3
 put-requires-3 c κs = search needs
 
 same-length-2 : tie.Need-same-length-2
-same-length-2 c = search needs
+same-length-2 c = omega (arith, c .before .before .put .kept)
 
 returns-2 : tie.Need-returns-2
 unfolding putTo onPut putEntry withTrees withLocals
@@ -60,10 +60,10 @@ returns-2 c =
     )
 
 same-length-3 : tie.Need-same-length-3
-same-length-3 c = search needs
+same-length-3 c = omega (arith, c .before .before .put3 .kept, c .before .before .before .before .before .before .before .put2 .kept)
 
 same-length-4 : tie.Need-same-length-4
-same-length-4 c = search needs
+same-length-4 c = omega (arith, c .before .before .put3 .kept, c .before .before .before .before .before .before .before .put2 .kept)
 
 returns-3 : tie.Need-returns-3
 unfolding putTo onPut putEntry withTrees withLocals

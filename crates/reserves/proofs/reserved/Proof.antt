@@ -41,13 +41,13 @@ done-requires : tie.Need-done-requires
 done-requires c κs = search needs
 
 same-length : tie.Need-same-length
-same-length c = search needs
+same-length c = omega (arith, c .before .before .before .before .unreserve-local .kept, c .before .before .before .before .before .before .before .before .swap .kept, c .before .before .before .before .before .before .before .before .before .before .before .before .before .before .before .before .before .before .lower-get .kept)
 
 same-length-2 : tie.Need-same-length-2
-same-length-2 c = search needs
+same-length-2 c = omega (arith, c .before .before .before .before .unreserve-local .kept, c .before .before .before .before .before .before .before .before .swap .kept, c .before .before .before .before .before .before .before .before .before .before .before .before .before .before .before .before .before .before .lower-get .kept)
 
 same-length-3 : tie.Need-same-length-3
-same-length-3 c = search needs
+same-length-3 c = omega (arith, c .before .before .before .before .unreserve-local .kept, c .before .before .before .before .before .before .before .before .swap .kept, c .before .before .before .before .before .before .before .before .before .before .before .before .before .before .before .before .before .before .lower-get .kept)
 
 returns : tie.Need-returns
 unfolding reserved onFound onSwap onReturned withTrees withLocals withTry
@@ -85,10 +85,10 @@ missed-requires : tie.Need-missed-requires
 missed-requires c κs = search needs
 
 same-length-4 : tie.Need-same-length-4
-same-length-4 c = search needs
+same-length-4 c = omega (arith, c .before .before .before .before .unreserve .kept, c .before .before .before .before .before .before .before .before .before .before .lower-get .kept)
 
 same-length-5 : tie.Need-same-length-5
-same-length-5 c = search needs
+same-length-5 c = omega (arith, c .before .before .before .before .unreserve .kept, c .before .before .before .before .before .before .before .before .before .before .lower-get .kept)
 
 returns-2 : tie.Need-returns-2
 unfolding reserved onFound onSwap onReturned withTrees withLocals withTry
@@ -110,13 +110,13 @@ stuck-requires-2 : tie.Need-stuck-requires-2
 stuck-requires-2 c κs = search needs
 
 same-length-6 : tie.Need-same-length-6
-same-length-6 c = search needs
+same-length-6 c = omega (arith, c .before .before .before .before .unreserve-local .kept, c .before .before .before .before .before .before .before .before .swap .kept, c .before .before .before .before .before .before .before .before .before .before .before .before .before .before .before .before .before .before .lower-get .kept)
 
 same-length-7 : tie.Need-same-length-7
-same-length-7 c = search needs
+same-length-7 c = omega (arith, c .before .before .before .before .unreserve-local .kept, c .before .before .before .before .before .before .before .before .swap .kept, c .before .before .before .before .before .before .before .before .before .before .before .before .before .before .before .before .before .before .lower-get .kept)
 
 same-length-8 : tie.Need-same-length-8
-same-length-8 c = search needs
+same-length-8 c = omega (arith, c .before .before .before .before .unreserve-local .kept, c .before .before .before .before .before .before .before .before .swap .kept, c .before .before .before .before .before .before .before .before .before .before .before .before .before .before .before .before .before .before .lower-get .kept)
 
 returns-3 : tie.Need-returns-3
 unfolding reserved onFound onSwap onReturned withTrees withLocals withTry
@@ -136,10 +136,10 @@ returns-3 c = (
 )
 
 same-length-9 : tie.Need-same-length-9
-same-length-9 c = search needs
+same-length-9 c = omega (arith, c .before .before .before .before .unreserve .kept, c .before .before .before .before .before .before .before .before .before .before .lower-get .kept)
 
 same-length-10 : tie.Need-same-length-10
-same-length-10 c = search needs
+same-length-10 c = omega (arith, c .before .before .before .before .unreserve .kept, c .before .before .before .before .before .before .before .before .before .before .lower-get .kept)
 
 returns-4 : tie.Need-returns-4
 unfolding reserved onFound onSwap onReturned withTrees withLocals withTry

@@ -1,4 +1,5 @@
 -- `steal::access` meets its contract. Assumes nothing.
+use native.Mathlib.Omega.{arith}
 use Rattle.ways.specs.Walk.{access}
 use borrow.Author.Needs.{needs}
 use Rattle.steal.proofs.access.Statement.{statement}
@@ -23,13 +24,13 @@ steal-global-requires : tie.Need-steal-global-requires
 steal-global-requires c κs = search needs
 
 same-length : tie.Need-same-length
-same-length c = search needs
+same-length c = omega (arith, c .before .before .before .before .before .before .reserve-or-steal .kept)
 
 same-length-2 : tie.Need-same-length-2
-same-length-2 c = search needs
+same-length-2 c = omega (arith, c .before .before .before .before .before .before .reserve-or-steal .kept)
 
 same-length-3 : tie.Need-same-length-3
-same-length-3 c = search needs
+same-length-3 c = omega (arith, c .before .before .before .before .before .before .reserve-or-steal .kept)
 
 returns : tie.Need-returns
 unfolding access
@@ -42,13 +43,13 @@ returns c = (
 )
 
 same-length-4 : tie.Need-same-length-4
-same-length-4 c = search needs
+same-length-4 c = omega (arith, c .before .before .before .before .before .before .reserve-or-steal2 .kept)
 
 same-length-5 : tie.Need-same-length-5
-same-length-5 c = search needs
+same-length-5 c = omega (arith, c .before .before .before .before .before .before .reserve-or-steal2 .kept)
 
 same-length-6 : tie.Need-same-length-6
-same-length-6 c = search needs
+same-length-6 c = omega (arith, c .before .before .before .before .before .before .reserve-or-steal2 .kept)
 
 returns-2 : tie.Need-returns-2
 unfolding access
@@ -61,13 +62,13 @@ returns-2 c = (
 )
 
 same-length-7 : tie.Need-same-length-7
-same-length-7 c = search needs
+same-length-7 c = omega (arith, c .before .before .before .before .before .before .steal-global .kept)
 
 same-length-8 : tie.Need-same-length-8
-same-length-8 c = search needs
+same-length-8 c = omega (arith, c .before .before .before .before .before .before .steal-global .kept)
 
 same-length-9 : tie.Need-same-length-9
-same-length-9 c = search needs
+same-length-9 c = omega (arith, c .before .before .before .before .before .before .steal-global .kept)
 
 returns-3 : tie.Need-returns-3
 unfolding access

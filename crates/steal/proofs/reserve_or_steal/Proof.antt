@@ -1,4 +1,5 @@
 -- `steal::reserve_or_steal` meets its contract. Assumes nothing.
+use native.Mathlib.Omega.{arith}
 use Rattle.steal.specs.Row.{row-tree}
 use Rattle.ways.specs.State.{onTaken, withTrees}
 use Rattle.ways.specs.Walk.{reserveOrSteal}
@@ -37,7 +38,7 @@ reserved-requires : tie.Need-reserved-requires
 reserved-requires c κs = search needs
 
 same-length : tie.Need-same-length
-same-length c = search needs
+same-length c = omega (arith, c .before .before .before .before .before .reserve-or-steal .kept)
 
 returns : tie.Need-returns
 unfolding reserveOrSteal onTaken withTrees
@@ -51,10 +52,10 @@ returns c = (
 )
 
 same-length-2 : tie.Need-same-length-2
-same-length-2 c = search needs
+same-length-2 c = omega (arith, c .before .before .before .before .ask-lower .kept, c .before .before .before .before .before .before .before .before .before .before .before .before .reserve-or-steal .kept)
 
 same-length-3 : tie.Need-same-length-3
-same-length-3 c = search needs
+same-length-3 c = omega (arith, c .before .before .before .before .ask-lower .kept, c .before .before .before .before .before .before .before .before .before .before .before .before .reserve-or-steal .kept)
 
 returns-2 : tie.Need-returns-2
 unfolding reserveOrSteal onTaken withTrees
@@ -68,13 +69,13 @@ returns-2 c = (
 )
 
 same-length-4 : tie.Need-same-length-4
-same-length-4 c = search needs
+same-length-4 c = omega (arith, c .before .before .before .before .before .before .reserved .kept, c .before .before .before .before .before .before .before .before .before .before .before .before .before .before .before .reserve-or-steal .kept)
 
 same-length-5 : tie.Need-same-length-5
-same-length-5 c = search needs
+same-length-5 c = omega (arith, c .before .before .before .before .before .before .reserved .kept, c .before .before .before .before .before .before .before .before .before .before .before .before .before .before .before .reserve-or-steal .kept)
 
 same-length-6 : tie.Need-same-length-6
-same-length-6 c = search needs
+same-length-6 c = omega (arith, c .before .before .before .before .before .before .reserved .kept, c .before .before .before .before .before .before .before .before .before .before .before .before .before .before .before .reserve-or-steal .kept)
 
 returns-3 : tie.Need-returns-3
 unfolding reserveOrSteal onTaken withTrees

@@ -1,4 +1,5 @@
 -- `steal::steal_global` meets its contract. Assumes nothing.
+use native.Mathlib.Omega.{arith}
 use Rattle.steal.specs.Row.{row-tree}
 use Rattle.ways.specs.State.{onTook, withTrees}
 use Rattle.ways.specs.Walk.{stealGlobal}
@@ -31,7 +32,7 @@ ask-lower-requires : tie.Need-ask-lower-requires
 ask-lower-requires c κs = search needs
 
 same-length : tie.Need-same-length
-same-length c = search needs
+same-length c = omega (arith, c .before .before .before .before .before .steal .kept)
 
 returns : tie.Need-returns
 unfolding stealGlobal onTook withTrees
@@ -45,10 +46,10 @@ returns c = (
 )
 
 same-length-2 : tie.Need-same-length-2
-same-length-2 c = search needs
+same-length-2 c = omega (arith, c .before .before .before .before .ask-lower .kept, c .before .before .before .before .before .before .before .before .before .before .before .before .steal .kept)
 
 same-length-3 : tie.Need-same-length-3
-same-length-3 c = search needs
+same-length-3 c = omega (arith, c .before .before .before .before .ask-lower .kept, c .before .before .before .before .before .before .before .before .before .before .before .before .steal .kept)
 
 returns-2 : tie.Need-returns-2
 unfolding stealGlobal onTook withTrees

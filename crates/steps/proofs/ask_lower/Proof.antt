@@ -1,4 +1,5 @@
 -- `steps::ask_lower` meets its contract. Assumes nothing.
+use native.Mathlib.Omega.{arith}
 use Rattle.ways.specs.State.{askLower, onFound, putEntry, withTrees, withTry}
 use borrow.Author.Needs.{needs}
 use Rattle.steps.proofs.ask_lower.Statement.{statement}
@@ -35,7 +36,7 @@ missed-requires : tie.Need-missed-requires
 missed-requires c κs = search needs
 
 same-length : tie.Need-same-length
-same-length c = search needs
+same-length c = omega (arith, c .before .before .before .before .before .before .lower-get .kept)
 
 returns : tie.Need-returns
 unfolding askLower onFound putEntry withTrees withTry
@@ -48,10 +49,10 @@ returns c = (
 )
 
 same-length-2 : tie.Need-same-length-2
-same-length-2 c = search needs
+same-length-2 c = omega (arith, c .before .before .before .put .kept, c .before .before .before .before .before .before .before .before .before .before .lower-get .kept)
 
 same-length-3 : tie.Need-same-length-3
-same-length-3 c = search needs
+same-length-3 c = omega (arith, c .before .before .before .put .kept, c .before .before .before .before .before .before .before .before .before .before .lower-get .kept)
 
 returns-2 : tie.Need-returns-2
 unfolding askLower onFound putEntry withTrees withTry

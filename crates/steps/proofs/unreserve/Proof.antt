@@ -1,4 +1,5 @@
 -- `steps::unreserve` meets its contract. Assumes nothing.
+use native.Mathlib.Omega.{arith}
 use Rattle.steps.specs.Returned.{returned, tookBack}
 use borrow.Author.Needs.{needs}
 use Rattle.steps.proofs.unreserve.Statement.{statement}
@@ -14,7 +15,7 @@ enum-told-2 : tie.Need-enum-told-2
 enum-told-2 c = search needs
 
 same-length : tie.Need-same-length
-same-length c = search needs
+same-length c = omega (arith, c .before .before .before .before .unreserve .kept)
 
 returns : tie.Need-returns
 unfolding returned tookBack
@@ -24,7 +25,7 @@ returns c = rw (
 )
 
 same-length-2 : tie.Need-same-length-2
-same-length-2 c = search needs
+same-length-2 c = omega (arith, c .before .before .before .before .unreserve .kept)
 
 returns-2 : tie.Need-returns-2
 unfolding returned tookBack

@@ -1,4 +1,5 @@
 -- `steps::unreserve_local` meets its contract. Assumes nothing.
+use native.Mathlib.Omega.{arith}
 use Rattle.rules.specs.Base.{ifte}
 use Rattle.steps.specs.Returned.{returnedLocal}
 use borrow.Author.Needs.{needs}
@@ -9,7 +10,7 @@ unreserve-requires : tie.Need-unreserve-requires
 unreserve-requires c κs = search needs
 
 same-length : tie.Need-same-length
-same-length c = search needs
+same-length c = omega (arith, c .before .before .unreserve .kept)
 
 returns : tie.Need-returns
 unfolding returnedLocal ifte

@@ -1,4 +1,5 @@
 -- `take::own_local` meets its contract. Assumes nothing.
+use native.Mathlib.Omega.{arith}
 use Rattle.ways.specs.Fits.{given-small}
 use Rattle.ways.specs.Locals.{ownLocal}
 use borrow.Author.Needs.{needs}
@@ -21,13 +22,13 @@ missed-requires : tie.Need-missed-requires
 missed-requires c κs = search needs
 
 same-length : tie.Need-same-length
-same-length c = search needs
+same-length c = omega (arith, c .before .before .before .before .before .before .get-local .kept)
 
 same-length-2 : tie.Need-same-length-2
-same-length-2 c = search needs
+same-length-2 c = omega (arith, c .before .before .before .before .before .before .get-local .kept)
 
 same-length-3 : tie.Need-same-length-3
-same-length-3 c = search needs
+same-length-3 c = omega (arith, c .before .before .before .before .before .before .get-local .kept)
 
 returns : tie.Need-returns
 unfolding ownLocal
