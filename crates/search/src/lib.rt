@@ -10,17 +10,18 @@ ghost use Rattle.rules.specs.Words.{config, treeCount};
 ghost use Rattle.ways.specs.declared.Walk.the-variants as Walk;
 ghost use Rattle.ways.specs.State.{st, ended};
 ghost use Rattle.ways.specs.Walk.{searchBest};
-ghost use Rattle.ways.specs.Search.{near, searchFar, searchFrom, searchAndReserve, searchAndSteal};
+ghost use Rattle.ways.specs.Search.{near, searchFrom, searchAndReserve, searchAndSteal};
 ghost use Rattle.ways.specs.Fits.{Fits};
 
-// The far walk: 0 to n, with a list of 8.
-fn search_far(
+// A walk over all trees, the far or the stealing one: 0 to n, with a list of 8.
+fn search_all(
     h: Header,
     table: &[u32; 64],
     trees: &mut [u32],
     locals: &mut [u64],
     bits: &mut [u64],
     q: Request,
+    w: Walk,
     j: usize,
     start: usize,
     looks: usize,
@@ -28,7 +29,8 @@ fn search_far(
 ) -> Routed
     requires { ⌜ Fits h q × ((start < 2 ^ 44) × ((looks < 2 ^ 29) × (tries < 2 ^ 29))) ⌝ }
     ensures { λ r. ⌜ (ended r (now (trees .exit)) (now (locals .exit)) (now (bits .exit))
-        ≡ searchFar (config h (now (table .entry))) q j start (st (now (trees .entry)) (now (locals .entry)) (now (bits .entry)) looks tries))
+        ≡ searchBest (config h (now (table .entry))) q w j 8 (treeCount 11 (h .frames)) start 0 (treeCount 11 (h .frames))
+        (st (now (trees .entry)) (now (locals .entry)) (now (bits .entry)) looks tries))
         × ((r .looks ≤ looks + 1024) × (r .tries ≤ tries + 1032)) ⌝ }
 {
     let n = spans::tree_count(h.frames);
@@ -39,19 +41,7 @@ fn search_far(
         first: 0,
         last: n,
     };
-    search_best::search_best(
-        h,
-        table,
-        trees,
-        locals,
-        bits,
-        q,
-        Walk::Far,
-        j,
-        p,
-        looks,
-        tries,
-    )
+    search_best::search_best(h, table, trees, locals, bits, q, w, j, p, looks, tries)
 }
 
 // The near walk: 1 to near, with a list of 3.
@@ -82,19 +72,8 @@ fn search_near(
         first: 1,
         last: last,
     };
-    search_best::search_best(
-        h,
-        table,
-        trees,
-        locals,
-        bits,
-        q,
-        Walk::Near,
-        j,
-        p,
-        looks,
-        tries,
-    )
+    let w = Walk::Near;
+    search_best::search_best(h, table, trees, locals, bits, q, w, j, p, looks, tries)
 }
 
 // Below order 9 the near walk; then the far walk.
@@ -115,15 +94,17 @@ fn search_from(
         ≡ searchFrom (config h (now (table .entry))) q j start (st (now (trees .entry)) (now (locals .entry)) (now (bits .entry)) looks tries))
         × ((r .looks ≤ looks + 2048) × (r .tries ≤ tries + 2048)) ⌝ }
 {
+    let w = Walk::Far;
     if q.order < 9 {
         let r = search_near(h, table, trees, locals, bits, q, j, start, looks, tries);
         let got = r.got;
         if ends::ends(got) {
             return r;
         }
-        return search_far(h, table, trees, locals, bits, q, j, start, r.looks, r.tries);
+        let seen = r.looks;
+        return search_all(h, table, trees, locals, bits, q, w, j, start, seen, r.tries);
     }
-    search_far(h, table, trees, locals, bits, q, j, start, looks, tries)
+    search_all(h, table, trees, locals, bits, q, w, j, start, looks, tries)
 }
 
 // The reserving search, for the local j.
@@ -166,25 +147,6 @@ pub fn search_and_steal(
         ≡ searchAndSteal (config h (now (table .entry))) q start (st (now (trees .entry)) (now (locals .entry)) (now (bits .entry)) looks tries))
         × ((r .looks ≤ looks + 2048) × (r .tries ≤ tries + 2048)) ⌝ }
 {
-    let n = spans::tree_count(h.frames);
-    let p = Path {
-        m: 8,
-        n: n,
-        start: start,
-        first: 0,
-        last: n,
-    };
-    search_best::search_best(
-        h,
-        table,
-        trees,
-        locals,
-        bits,
-        q,
-        Walk::Stealing,
-        0,
-        p,
-        looks,
-        tries,
-    )
+    let w = Walk::Stealing;
+    search_all(h, table, trees, locals, bits, q, w, 0, start, looks, tries)
 }

@@ -45,20 +45,8 @@ pub fn search_best(
         let next = walk::walk_on(h, table, trees, q, w, p, s.at + 1, list, a.looks);
         s = next;
     }
+    let m = p.m;
     let list = s.best;
     let seen = s.looks;
-    lists::try_list(
-        h,
-        table,
-        trees,
-        locals,
-        bits,
-        q,
-        w,
-        j,
-        p.m,
-        list,
-        seen,
-        asked,
-    )
+    lists::try_list(h, table, trees, locals, bits, q, w, j, m, list, seen, asked)
 }

@@ -5,32 +5,26 @@ use borrow.Author.Needs.{needs}
 use Rattle.search.proofs.search_and_steal.Statement.{statement}
 use Rattle.search.proofs.search_and_steal.Tie as tie
 
-tree-count-requires : tie.Need-tree-count-requires
-tree-count-requires c κs = search needs
-
-search-best-requires : tie.Need-search-best-requires
-search-best-requires c κs = search needs
+search-all-requires : tie.Need-search-all-requires
+search-all-requires c κs = search needs
 
 same-length : tie.Need-same-length
-same-length c = omega (arith, c .before .before .before .before .before .before .search-best .kept)
+same-length c = c .before .before .before .before .before .before .search-all .kept .1 .1 .0
 
 same-length-2 : tie.Need-same-length-2
-same-length-2 c = omega (arith, c .before .before .before .before .before .before .search-best .kept)
+same-length-2 c = c .before .before .before .before .before .before .search-all .kept .1 .1 .1 .0
 
 same-length-3 : tie.Need-same-length-3
-same-length-3 c = omega (arith, c .before .before .before .before .before .before .search-best .kept)
+same-length-3 c = c .before .before .before .before .before .before .search-all .kept .1 .1 .1 .1 .0
 
 returns : tie.Need-returns
 unfolding searchAndSteal
 returns c = (
-  rw (
-    ← c .before .before .before .before .before .before .before .before .before .before .tree-count .ensures .0,
-    ← c .before .before .before .before .before .before .search-best .ensures .0,
-  ),
-  omega (arith, c .before .before .before .before .before .before .search-best .ensures .1, c .before .before .before .before .before .before .before .before .before .before .tree-count .ensures .1),
+  rw (← c .before .before .before .before .before .before .search-all .ensures .0),
+  omega (arith, c .before .before .before .before .before .before .search-all .ensures .1),
 )
 
 pub search-and-steal-spec : {M : Type 1} → statement M
 search-and-steal-spec =
     tie.close
-    (tie.spec tree-count-requires search-best-requires same-length same-length-2 same-length-3 returns)
+    (tie.spec search-all-requires same-length same-length-2 same-length-3 returns)

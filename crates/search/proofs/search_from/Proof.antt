@@ -2,7 +2,7 @@
 use native.Mathlib.Omega.{arith}
 use Rattle.ends.specs.Ends.{else-ends, else-goes}
 use Rattle.rules.specs.Base.{ifte}
-use Rattle.ways.specs.Search.{searchFrom}
+use Rattle.ways.specs.Search.{searchFar, searchFrom}
 use mathlib.Core.Path.{sym, _∙_}
 use borrow.Author.Tests.{le-ltb, lt-ltb}
 use borrow.Author.Needs.{needs}
@@ -25,7 +25,7 @@ same-length-3 : tie.Need-same-length-3
 same-length-3 c = omega (arith, c .before .before .before .before .before .before .before .before .search-near .kept)
 
 returns : tie.Need-returns
-unfolding searchFrom ifte
+unfolding searchFrom searchFar ifte
 returns c = (
   rw (
     lt-ltb _ _ (c .before .before .before .before .before .before .before .before .before .before .before .before .if1 .taken),
@@ -35,50 +35,50 @@ returns c = (
   omega (arith, c .before .before .before .before .before .before .before .before .search-near .ensures .1),
 )
 
-search-far-requires : tie.Need-search-far-requires
-search-far-requires c κs = search needs
+search-all-requires : tie.Need-search-all-requires
+search-all-requires c κs = search needs
 
 same-length-4 : tie.Need-same-length-4
-same-length-4 c = omega (arith, c .before .before .before .before .before .before .search-far .kept, c .before .before .before .before .before .before .before .before .before .before .before .before .before .before .before .before .before .before .search-near .kept)
+same-length-4 c = omega (arith, c .before .before .before .before .before .before .search-all .kept, c .before .before .before .before .before .before .before .before .before .before .before .before .before .before .before .before .before .before .search-near .kept)
 
 same-length-5 : tie.Need-same-length-5
-same-length-5 c = omega (arith, c .before .before .before .before .before .before .search-far .kept, c .before .before .before .before .before .before .before .before .before .before .before .before .before .before .before .before .before .before .search-near .kept)
+same-length-5 c = omega (arith, c .before .before .before .before .before .before .search-all .kept, c .before .before .before .before .before .before .before .before .before .before .before .before .before .before .before .before .before .before .search-near .kept)
 
 same-length-6 : tie.Need-same-length-6
-same-length-6 c = omega (arith, c .before .before .before .before .before .before .search-far .kept, c .before .before .before .before .before .before .before .before .before .before .before .before .before .before .before .before .before .before .search-near .kept)
+same-length-6 c = omega (arith, c .before .before .before .before .before .before .search-all .kept, c .before .before .before .before .before .before .before .before .before .before .before .before .before .before .before .before .before .before .search-near .kept)
 
 returns-2 : tie.Need-returns-2
-unfolding searchFrom ifte
+unfolding searchFrom searchFar ifte
 returns-2 c = (
   rw (
     lt-ltb _ _ (c .before .before .before .before .before .before .before .before .before .before .before .before .before .before .before .before .before .before .before .before .before .before .if1 .taken),
     ← c .before .before .before .before .before .before .before .before .before .before .before .before .before .before .before .before .before .before .search-near .ensures .0,
     else-goes _ _ _ (sym (c .before .before .before .before .before .before .before .before .before .before .before .ends .ensures) ∙ c .before .before .before .before .before .before .before .before .before .before .if2 .left),
-    ← c .before .before .before .before .before .before .search-far .ensures .0,
+    ← c .before .before .before .before .before .before .search-all .ensures .0,
   ),
-  omega (arith, c .before .before .before .before .before .before .search-far .ensures .1, c .before .before .before .before .before .before .before .before .before .before .before .before .before .before .before .before .before .before .search-near .ensures .1),
+  omega (arith, c .before .before .before .before .before .before .search-all .ensures .1, c .before .before .before .before .before .before .before .before .before .before .before .before .before .before .before .before .before .before .search-near .ensures .1),
 )
 
-search-far-requires-2 : tie.Need-search-far-requires-2
-search-far-requires-2 c κs = search needs
+search-all-requires-2 : tie.Need-search-all-requires-2
+search-all-requires-2 c κs = search needs
 
 same-length-7 : tie.Need-same-length-7
-same-length-7 c = omega (arith, c .before .before .before .before .before .before .search-far2 .kept)
+same-length-7 c = omega (arith, c .before .before .before .before .before .before .search-all2 .kept)
 
 same-length-8 : tie.Need-same-length-8
-same-length-8 c = omega (arith, c .before .before .before .before .before .before .search-far2 .kept)
+same-length-8 c = omega (arith, c .before .before .before .before .before .before .search-all2 .kept)
 
 same-length-9 : tie.Need-same-length-9
-same-length-9 c = omega (arith, c .before .before .before .before .before .before .search-far2 .kept)
+same-length-9 c = omega (arith, c .before .before .before .before .before .before .search-all2 .kept)
 
 returns-3 : tie.Need-returns-3
-unfolding searchFrom ifte
+unfolding searchFrom searchFar ifte
 returns-3 c = (
   rw (
     le-ltb _ _ (c .before .before .before .before .before .before .before .before .before .before .if1 .left),
-    ← c .before .before .before .before .before .before .search-far2 .ensures .0,
+    ← c .before .before .before .before .before .before .search-all2 .ensures .0,
   ),
-  omega (arith, c .before .before .before .before .before .before .search-far2 .ensures .1),
+  omega (arith, c .before .before .before .before .before .before .search-all2 .ensures .1),
 )
 
 pub search-from-spec : {M : Type 1} → statement M
@@ -91,12 +91,12 @@ search-from-spec =
     same-length-2
     same-length-3
     returns
-    search-far-requires
+    search-all-requires
     same-length-4
     same-length-5
     same-length-6
     returns-2
-    search-far-requires-2
+    search-all-requires-2
     same-length-7
     same-length-8
     same-length-9

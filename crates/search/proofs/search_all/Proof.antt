@@ -1,9 +1,8 @@
--- `search::search_far` meets its contract. Assumes nothing.
+-- `search::search_all` meets its contract. Assumes nothing.
 use native.Mathlib.Omega.{arith}
-use Rattle.ways.specs.Search.{searchFar}
 use borrow.Author.Needs.{needs}
-use Rattle.search.proofs.search_far.Statement.{statement}
-use Rattle.search.proofs.search_far.Tie as tie
+use Rattle.search.proofs.search_all.Statement.{statement}
+use Rattle.search.proofs.search_all.Tie as tie
 
 tree-count-requires : tie.Need-tree-count-requires
 tree-count-requires c κs = search needs
@@ -21,7 +20,6 @@ same-length-3 : tie.Need-same-length-3
 same-length-3 c = omega (arith, c .before .before .before .before .before .before .search-best .kept)
 
 returns : tie.Need-returns
-unfolding searchFar
 returns c = (
   rw (
     ← c .before .before .before .before .before .before .before .before .before .before .tree-count .ensures .0,
@@ -30,7 +28,7 @@ returns c = (
   omega (arith, c .before .before .before .before .before .before .search-best .ensures .1, c .before .before .before .before .before .before .before .before .before .before .tree-count .ensures .1),
 )
 
-pub search-far-spec : {M : Type 1} → statement M
-search-far-spec =
+pub search-all-spec : {M : Type 1} → statement M
+search-all-spec =
     tie.close
     (tie.spec tree-count-requires search-best-requires same-length same-length-2 same-length-3 returns)
