@@ -1,9 +1,9 @@
--- `accept::pair_at` meets its contract. Assumes nothing.
+-- `tables::pair_at` meets its contract. Assumes nothing.
 use Rattle.rules.specs.Policy.{pairOf}
 use mathlib.Core.Path.{refl}
 use borrow.Author.Needs.{needs}
-use Rattle.accept.proofs.pair_at.Statement.{statement}
-use Rattle.accept.proofs.pair_at.Tie as tie
+use Rattle.tables.proofs.pair_at.Statement.{statement}
+use Rattle.tables.proofs.pair_at.Tie as tie
 
 mul-result : tie.Need-mul-result
 mul-result c = search needs

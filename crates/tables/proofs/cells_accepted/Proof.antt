@@ -1,4 +1,4 @@
--- `accept::cells_accepted` meets its contract. The invariant: the test passes at every number passed. The measure: the numbers left. Assumes nothing.
+-- `tables::cells_accepted` meets its contract. The invariant: the test passes at every number passed. The measure: the numbers left. Assumes nothing.
 use mathlib.Core.Path.{_≡_, sym, _∙_}
 use mathlib.Core.Bool.{true}
 use Prim.Native.Nat.{_≤_, _-_}
@@ -8,8 +8,8 @@ use Rattle.rules.specs.Base.{allBelow}
 use Rattle.policy_laws.specs.All.{all-none, all-more, all-fails, all-done}
 use Rattle.rules.specs.Words.{config}
 use Rattle.policy_laws.specs.Rows.{cellAccepted}
-use Rattle.accept.proofs.cells_accepted.Statement.{statement}
-use Rattle.accept.proofs.cells_accepted.Tie as tie
+use Rattle.tables.proofs.cells_accepted.Statement.{statement}
+use Rattle.tables.proofs.cells_accepted.Tie as tie
 
 abbrev Inv-loop : tie.InvT-loop
 Inv-loop h places table o e₀ e = (e ≤ 8) × (allBelow e (cellAccepted (config h table) o) ≡ true)

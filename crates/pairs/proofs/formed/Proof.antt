@@ -1,8 +1,8 @@
--- `accept::formed` meets its contract. Assumes nothing.
+-- `pairs::formed` meets its contract. Assumes nothing.
 use Rattle.rules.specs.Policy.{pairFormed, kindOf, cutOf}
 use borrow.Author.Tests.{eq-eqb, ne-eqb}
-use Rattle.accept.proofs.formed.Statement.{statement}
-use Rattle.accept.proofs.formed.Tie as tie
+use Rattle.pairs.proofs.formed.Statement.{statement}
+use Rattle.pairs.proofs.formed.Tie as tie
 
 returns : tie.Need-returns
 unfolding pairFormed kindOf cutOf

@@ -1,9 +1,9 @@
--- `accept::pair_covered` meets its contract. Assumes nothing.
+-- `pairs::pair_covered` meets its contract. Assumes nothing.
 use Rattle.rules.specs.Policy.{good}
 use borrow.Author.Tests.{le-leb, lt-leb}
 use borrow.Author.Needs.{needs}
-use Rattle.accept.proofs.pair_covered.Statement.{statement}
-use Rattle.accept.proofs.pair_covered.Tie as tie
+use Rattle.pairs.proofs.pair_covered.Statement.{statement}
+use Rattle.pairs.proofs.pair_covered.Tie as tie
 
 kind-at-requires : tie.Need-kind-at-requires
 kind-at-requires c κs = search needs

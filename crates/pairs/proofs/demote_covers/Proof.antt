@@ -1,9 +1,9 @@
--- `accept::demote_covers` meets its contract. Assumes nothing.
+-- `pairs::demote_covers` meets its contract. Assumes nothing.
 use Rattle.policy_laws.specs.Rows.{demoteCovers}
 use borrow.Author.Tests.{eq-eqb, ne-eqb}
 use borrow.Author.Needs.{needs}
-use Rattle.accept.proofs.demote_covers.Statement.{statement}
-use Rattle.accept.proofs.demote_covers.Tie as tie
+use Rattle.pairs.proofs.demote_covers.Statement.{statement}
+use Rattle.pairs.proofs.demote_covers.Tie as tie
 
 kind-at-requires : tie.Need-kind-at-requires
 kind-at-requires c κs = search needs

@@ -1,10 +1,10 @@
--- `accept::cell_accepted` meets its contract. Assumes nothing.
+-- `tables::cell_accepted` meets its contract. Assumes nothing.
 use Rattle.policy_laws.specs.Rows.{cellAccepted}
 use mathlib.Core.Path.{ap, _∙_}
 use Rattle.rules.specs.Words.{configured}
 use borrow.Author.Needs.{needs}
-use Rattle.accept.proofs.cell_accepted.Statement.{statement}
-use Rattle.accept.proofs.cell_accepted.Tie as tie
+use Rattle.tables.proofs.cell_accepted.Statement.{statement}
+use Rattle.tables.proofs.cell_accepted.Tie as tie
 
 has-place-requires : tie.Need-has-place-requires
 has-place-requires c κs = search needs

@@ -1,10 +1,10 @@
--- `accept::leads_back` meets its contract. Assumes nothing.
+-- `pairs::leads_back` meets its contract. Assumes nothing.
 use Rattle.rules.specs.Policy.{good}
 use Rattle.policy_laws.specs.Rows.{leadsBack}
 use borrow.Author.Tests.{le-leb, le-ltb, lt-leb, lt-ltb}
 use borrow.Author.Needs.{needs}
-use Rattle.accept.proofs.leads_back.Statement.{statement}
-use Rattle.accept.proofs.leads_back.Tie as tie
+use Rattle.pairs.proofs.leads_back.Statement.{statement}
+use Rattle.pairs.proofs.leads_back.Tie as tie
 
 kind-at-requires : tie.Need-kind-at-requires
 kind-at-requires c κs = search needs

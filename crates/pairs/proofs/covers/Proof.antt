@@ -1,4 +1,4 @@
--- `accept::covers` meets its contract. The invariant: the test passes at every number passed. The measure: the numbers left. Assumes nothing.
+-- `pairs::covers` meets its contract. The invariant: the test passes at every number passed. The measure: the numbers left. Assumes nothing.
 use mathlib.Core.Path.{_≡_, sym, _∙_}
 use mathlib.Core.Bool.{true}
 use Prim.Native.Nat.{_≤_, _-_}
@@ -8,8 +8,8 @@ use Rattle.rules.specs.Base.{allBelow}
 use Rattle.policy_laws.specs.All.{all-none, all-more, all-fails, all-done}
 use Rattle.rules.specs.Words.{config}
 use Rattle.policy_laws.specs.Rows.{pairCovered, covers}
-use Rattle.accept.proofs.covers.Statement.{statement}
-use Rattle.accept.proofs.covers.Tie as tie
+use Rattle.pairs.proofs.covers.Statement.{statement}
+use Rattle.pairs.proofs.covers.Tie as tie
 
 abbrev Inv-loop : tie.InvT-loop
 Inv-loop h table o e f₀ f = (f ≤ 8) × (allBelow f (pairCovered (config h table) o e) ≡ true)

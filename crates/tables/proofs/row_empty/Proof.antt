@@ -1,4 +1,4 @@
--- `accept::row_empty` meets its contract. The invariant: no bit so far exactly if the pairs so far are zero. The measure: the pairs left. Assumes nothing.
+-- `tables::row_empty` meets its contract. The invariant: no bit so far exactly if the pairs so far are zero. The measure: the pairs left. Assumes nothing.
 use mathlib.Core.Path.{_≡_, sym, ap, ap₂, _∙_}
 use Prim.Native.Nat.{ℕ, _≤_, _-_}
 use native.Mathlib.Omega.{arith}
@@ -9,8 +9,8 @@ use Rattle.rules.specs.Base.{both, allBelow}
 use Rattle.rules.specs.Words.{config}
 use Rattle.policy_laws.specs.All.{or-empty, all-none, all-next}
 use Rattle.policy_laws.specs.Rows.{pairEmpty, rowEmpty}
-use Rattle.accept.proofs.row_empty.Statement.{statement}
-use Rattle.accept.proofs.row_empty.Tie as tie
+use Rattle.tables.proofs.row_empty.Statement.{statement}
+use Rattle.tables.proofs.row_empty.Tie as tie
 
 abbrev Inv-loop : tie.InvT-loop
 Inv-loop h table o any₀ e₀ any e = (e ≤ 8) × (eqb any 0 ≡ allBelow e (pairEmpty (config h table) o))

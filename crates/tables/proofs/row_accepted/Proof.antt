@@ -1,12 +1,12 @@
--- `accept::row_accepted` meets its contract. Assumes nothing.
+-- `tables::row_accepted` meets its contract. Assumes nothing.
 use Rattle.policy_laws.specs.Rows.{rowAccepted}
 use Rattle.rules.specs.Policy.{good}
 use borrow.Author.Tests.{le-leb, lt-leb}
 use mathlib.Core.Path.{ap, _∙_}
 use Rattle.rules.specs.Words.{configured}
 use borrow.Author.Needs.{needs}
-use Rattle.accept.proofs.row_accepted.Statement.{statement}
-use Rattle.accept.proofs.row_accepted.Tie as tie
+use Rattle.tables.proofs.row_accepted.Statement.{statement}
+use Rattle.tables.proofs.row_accepted.Tie as tie
 
 has-place-requires : tie.Need-has-place-requires
 has-place-requires c κs = search needs
