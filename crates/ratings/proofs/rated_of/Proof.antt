@@ -1,11 +1,11 @@
--- `best::rated_of` meets its contract: a rating is a byte, since a pair is a u32. Assumes nothing.
+-- `ratings::rated_of` meets its contract: a rating is a byte, since a pair is a u32. Assumes nothing.
 use borrow.Author.Needs.{needs}
-use Rattle.best.specs.List.{policy-small}
-use Rattle.best.proofs.rated_of.Statement.{statement}
-use Rattle.best.proofs.rated_of.Tie as tie
-use Rattle.best.proofs.rated_of.Reads as reads
-use Rattle.best.proofs.rated_of.Lts as lts
-use Rattle.best.proofs.rated_in.Reads as rated-in-reads
+use Rattle.ratings.specs.Rating.{policy-small}
+use Rattle.ratings.proofs.rated_of.Statement.{statement}
+use Rattle.ratings.proofs.rated_of.Tie as tie
+use Rattle.ratings.proofs.rated_of.Reads as reads
+use Rattle.ratings.proofs.rated_of.Lts as lts
+use Rattle.ratings.proofs.rated_in.Reads as rated-in-reads
 use Rattle.words.proofs.policy_of.Reads as policy-of-reads
 
 policy-of-requires : tie.Need-policy-of-requires

@@ -1,12 +1,12 @@
--- `best::rated_in` meets its contract: one answer for each walk and kind. Assumes nothing.
+-- `ratings::rated_in` meets its contract: one answer for each walk and kind. Assumes nothing.
 use Rattle.ways.specs.Walk.{ratedIn}
 use borrow.Author.Needs.{needs}
 use native.Mathlib.Omega.{arith}
-use Rattle.best.specs.List.{small}
-use Rattle.best.proofs.rated_in.Statement.{statement}
-use Rattle.best.proofs.rated_in.Tie as tie
-use Rattle.best.proofs.rated_in.Reads as reads
-use Rattle.best.proofs.rated_in.Lts as lts
+use Rattle.ratings.specs.Rating.{small}
+use Rattle.ratings.proofs.rated_in.Statement.{statement}
+use Rattle.ratings.proofs.rated_in.Tie as tie
+use Rattle.ratings.proofs.rated_in.Reads as reads
+use Rattle.ratings.proofs.rated_in.Lts as lts
 
 enum-told : tie.Need-enum-told
 enum-told c = search needs
