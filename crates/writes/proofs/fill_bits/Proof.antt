@@ -1,9 +1,10 @@
--- `starts::fill_bits` meets its contract: three fills, or one. Assumes nothing.
+-- `writes::fill_bits` meets its contract: three fills, or one. Assumes nothing.
 use native.Mathlib.Omega.{arith}
 use borrow.Author.Needs.{needs}
-use Rattle.starts.specs.Fill.{all-filled, parts-filled, word-free, word-held}
-use Rattle.starts.proofs.fill_bits.Statement.{statement}
-use Rattle.starts.proofs.fill_bits.Tie as tie
+use Rattle.writes.specs.Fill.{all-filled, parts-filled}
+use Rattle.shares.specs.Share.{word-free, word-held}
+use Rattle.writes.proofs.fill_bits.Statement.{statement}
+use Rattle.writes.proofs.fill_bits.Tie as tie
 
 fill-words-requires : tie.Need-fill-words-requires
 fill-words-requires c κs = search needs

@@ -1,8 +1,8 @@
--- `starts::tree_word_at` meets its contract. Assumes nothing.
+-- `shares::tree_word_at` meets its contract. Assumes nothing.
 use Rattle.ways.specs.Calls.{freshTree}
 use borrow.Author.Needs.{needs}
-use Rattle.starts.proofs.tree_word_at.Statement.{statement}
-use Rattle.starts.proofs.tree_word_at.Tie as tie
+use Rattle.shares.proofs.tree_word_at.Statement.{statement}
+use Rattle.shares.proofs.tree_word_at.Tie as tie
 
 share-requires : tie.Need-share-requires
 share-requires c κs = search needs

@@ -1,9 +1,9 @@
--- `starts::fill_locals` meets its contract: one fill. Assumes nothing.
+-- `writes::fill_locals` meets its contract: one fill. Assumes nothing.
 use mathlib.Core.Path.{refl}
 use borrow.Author.Needs.{needs}
-use Rattle.starts.specs.Fill.{all-filled}
-use Rattle.starts.proofs.fill_locals.Statement.{statement}
-use Rattle.starts.proofs.fill_locals.Tie as tie
+use Rattle.writes.specs.Fill.{all-filled}
+use Rattle.writes.proofs.fill_locals.Statement.{statement}
+use Rattle.writes.proofs.fill_locals.Tie as tie
 
 fill-words-requires : tie.Need-fill-words-requires
 fill-words-requires c κs = search needs

@@ -1,9 +1,10 @@
--- `starts::fill_trees` meets its contract: three fills, or one. Assumes nothing.
+-- `writes::fill_trees` meets its contract: three fills, or one. Assumes nothing.
 use native.Mathlib.Omega.{arith}
 use borrow.Author.Needs.{needs}
-use Rattle.starts.specs.Fill.{all-filled, parts-filled, tree-full, tree-held}
-use Rattle.starts.proofs.fill_trees.Statement.{statement}
-use Rattle.starts.proofs.fill_trees.Tie as tie
+use Rattle.writes.specs.Fill.{all-filled, parts-filled}
+use Rattle.shares.specs.Share.{tree-full, tree-held}
+use Rattle.writes.proofs.fill_trees.Statement.{statement}
+use Rattle.writes.proofs.fill_trees.Tie as tie
 
 tree-word-at-requires : tie.Need-tree-word-at-requires
 tree-word-at-requires c κs = search needs

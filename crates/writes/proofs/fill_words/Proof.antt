@@ -1,12 +1,12 @@
--- `starts::fill_words` meets its contract. The loop's invariant: the words passed are stored. Assumes nothing.
+-- `writes::fill_words` meets its contract. The loop's invariant: the words passed are stored. Assumes nothing.
 use mathlib.Core.Path.{_≡_}
 use Prim.Native.Nat.{_-_, _<_, _≤_}
 use native.Mathlib.Omega.{arith}
 use lib.ListN.{length}
 use borrow.Author.Needs.{needs}
-use Rattle.starts.specs.Fill.{Filled, filled-none, filled-more}
-use Rattle.starts.proofs.fill_words.Statement.{statement}
-use Rattle.starts.proofs.fill_words.Tie as tie
+use Rattle.writes.specs.Fill.{Filled, filled-none, filled-more}
+use Rattle.writes.proofs.fill_words.Statement.{statement}
+use Rattle.writes.proofs.fill_words.Tie as tie
 
 abbrev Inv-loop : tie.InvT-loop
 Inv-loop words₀ from to w i₀ words i = (from ≤ i) × ((i ≤ to) × Filled from i w words₀ words)

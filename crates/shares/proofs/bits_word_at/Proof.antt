@@ -1,11 +1,11 @@
--- `starts::bits_word_at` meets its contract. Assumes nothing.
+-- `shares::bits_word_at` meets its contract. Assumes nothing.
 use mathlib.Core.Path.{_≡_}
 use native.Mathlib.Omega.{arith}
 use Rattle.ways.specs.Calls.{freshWord}
-use Rattle.starts.specs.Fill.{shl-some, word-part}
+use Rattle.shares.specs.Share.{shl-some, word-part}
 use borrow.Author.Needs.{needs}
-use Rattle.starts.proofs.bits_word_at.Statement.{statement}
-use Rattle.starts.proofs.bits_word_at.Tie as tie
+use Rattle.shares.proofs.bits_word_at.Statement.{statement}
+use Rattle.shares.proofs.bits_word_at.Tie as tie
 
 share-requires : tie.Need-share-requires
 share-requires c κs = search needs

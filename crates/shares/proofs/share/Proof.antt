@@ -1,9 +1,9 @@
--- `starts::share` meets its contract. Assumes nothing.
+-- `shares::share` meets its contract. Assumes nothing.
 use borrow.Author.Needs.{needs}
-use Rattle.starts.specs.Fill.{part-lt, share-none, share-all, share-left}
+use Rattle.shares.specs.Share.{part-lt, share-none, share-all, share-left}
 use native.Mathlib.Omega.{arith}
-use Rattle.starts.proofs.share.Statement.{statement}
-use Rattle.starts.proofs.share.Tie as tie
+use Rattle.shares.proofs.share.Statement.{statement}
+use Rattle.shares.proofs.share.Tie as tie
 
 mul-before : tie.Need-mul-before
 mul-before c = omega (arith, part-lt (c .args .size) (c .args .i) (c .pre .0) (c .pre .1))
