@@ -1,9 +1,9 @@
--- `local::take` meets its contract. Assumes nothing.
+-- `pays::take` meets its contract. Assumes nothing.
 use Rattle.rules.specs.Locals.{localTake}
 use borrow.Author.Tests.{le-leb, lt-leb}
 use borrow.Author.Needs.{needs}
-use Rattle.local.proofs.take.Statement.{statement}
-use Rattle.local.proofs.take.Tie as tie
+use Rattle.pays.proofs.take.Statement.{statement}
+use Rattle.pays.proofs.take.Tie as tie
 
 load-requires : tie.Need-load-requires
 load-requires c κs = search needs

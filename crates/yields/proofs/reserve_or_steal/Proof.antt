@@ -1,9 +1,9 @@
--- `entries::reserve_or_steal` meets its contract. Assumes nothing.
+-- `yields::reserve_or_steal` meets its contract. Assumes nothing.
 use Rattle.rules.specs.Entries.{reserveOf, reserveKind}
 use borrow.Author.Tests.{le-ltb, lt-ltb}
 use borrow.Author.Needs.{needs}
-use Rattle.entries.proofs.reserve_or_steal.Statement.{statement}
-use Rattle.entries.proofs.reserve_or_steal.Tie as tie
+use Rattle.yields.proofs.reserve_or_steal.Statement.{statement}
+use Rattle.yields.proofs.reserve_or_steal.Tie as tie
 
 returns : tie.Need-returns
 unfolding reserveOf reserveKind

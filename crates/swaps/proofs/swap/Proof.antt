@@ -1,8 +1,8 @@
--- `local::swap` meets its contract. Assumes nothing.
+-- `swaps::swap` meets its contract. Assumes nothing.
 use Rattle.rules.specs.Locals.{localSwap}
 use borrow.Author.Needs.{needs}
-use Rattle.local.proofs.swap.Statement.{statement}
-use Rattle.local.proofs.swap.Tie as tie
+use Rattle.swaps.proofs.swap.Statement.{statement}
+use Rattle.swaps.proofs.swap.Tie as tie
 
 load-requires : tie.Need-load-requires
 load-requires c κs = search needs

@@ -1,9 +1,9 @@
--- `entries::steal` meets its contract. Assumes nothing.
+-- `yields::steal` meets its contract. Assumes nothing.
 use Rattle.rules.specs.Entries.{stealOf, stealKind}
 use borrow.Author.Tests.{le-ltb, lt-ltb}
 use borrow.Author.Needs.{needs}
-use Rattle.entries.proofs.steal.Statement.{statement}
-use Rattle.entries.proofs.steal.Tie as tie
+use Rattle.yields.proofs.steal.Statement.{statement}
+use Rattle.yields.proofs.steal.Tie as tie
 
 returns : tie.Need-returns
 unfolding stealOf stealKind

@@ -1,8 +1,8 @@
--- `local::clear` meets its contract. Assumes nothing.
+-- `swaps::clear` meets its contract. Assumes nothing.
 use Rattle.rules.specs.Locals.{localClear}
 use borrow.Author.Needs.{needs}
-use Rattle.local.proofs.clear.Statement.{statement}
-use Rattle.local.proofs.clear.Tie as tie
+use Rattle.swaps.proofs.clear.Statement.{statement}
+use Rattle.swaps.proofs.clear.Tie as tie
 
 load-requires : tie.Need-load-requires
 load-requires c κs = search needs

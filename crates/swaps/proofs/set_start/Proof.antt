@@ -1,8 +1,8 @@
--- `local::set_start` meets its contract. Assumes nothing.
+-- `swaps::set_start` meets its contract. Assumes nothing.
 use Rattle.rules.specs.Locals.{localRow}
 use borrow.Author.Needs.{needs}
-use Rattle.local.proofs.set_start.Statement.{statement}
-use Rattle.local.proofs.set_start.Tie as tie
+use Rattle.swaps.proofs.set_start.Statement.{statement}
+use Rattle.swaps.proofs.set_start.Tie as tie
 
 load-requires : tie.Need-load-requires
 load-requires c κs = search needs

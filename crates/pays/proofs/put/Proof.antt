@@ -1,9 +1,9 @@
--- `local::put` meets its contract. Assumes nothing.
+-- `pays::put` meets its contract. Assumes nothing.
 use Rattle.rules.specs.Locals.{localPut}
 use borrow.Author.Tests.{eq-eqb, ne-eqb}
 use borrow.Author.Needs.{needs}
-use Rattle.local.proofs.put.Statement.{statement}
-use Rattle.local.proofs.put.Tie as tie
+use Rattle.pays.proofs.put.Statement.{statement}
+use Rattle.pays.proofs.put.Tie as tie
 
 load-requires : tie.Need-load-requires
 load-requires c κs = search needs

@@ -1,8 +1,8 @@
--- `trees::steal` meets its contract. Assumes nothing.
+-- `draws::steal` meets its contract. Assumes nothing.
 use Rattle.rules.specs.Entries.{entrySteal, keepTook}
 use borrow.Author.Needs.{needs}
-use Rattle.trees.proofs.steal.Statement.{statement}
-use Rattle.trees.proofs.steal.Tie as tie
+use Rattle.draws.proofs.steal.Statement.{statement}
+use Rattle.draws.proofs.steal.Tie as tie
 
 load-requires : tie.Need-load-requires
 load-requires c κs = search needs

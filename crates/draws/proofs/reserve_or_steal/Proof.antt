@@ -1,8 +1,8 @@
--- `trees::reserve_or_steal` meets its contract. Assumes nothing.
+-- `draws::reserve_or_steal` meets its contract. Assumes nothing.
 use Rattle.rules.specs.Entries.{entryReserve, keepTaken}
 use borrow.Author.Needs.{needs}
-use Rattle.trees.proofs.reserve_or_steal.Statement.{statement}
-use Rattle.trees.proofs.reserve_or_steal.Tie as tie
+use Rattle.draws.proofs.reserve_or_steal.Statement.{statement}
+use Rattle.draws.proofs.reserve_or_steal.Tie as tie
 
 load-requires : tie.Need-load-requires
 load-requires c κs = search needs
