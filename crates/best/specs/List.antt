@@ -1,6 +1,5 @@
 -- The list of the best as the code has it: words, each a rating with its fullness, times 2^32, plus a tree, 0 past the last. Assumes nothing.
 use mathlib.Core.Path.{_≡_, refl}
-use mathlib.Core.Bool.{Bool, true, false}
 use mathlib.Core.List.{List, [], _∷_}
 use Prim.Native.Nat.{ℕ, zero, suc, _+_, _-_, _/_, _%_, _^_, _<_, _≤_}
 use native.Mathlib.Omega.{arith}
@@ -8,11 +7,6 @@ use native.Mathlib.Nat.{sub-zero}
 use native.Mathlib.Numerals.{add-one}
 use lib.ListN.{length, getD, drop, replicate}
 use lib.Seq.{drop-cons}
-use lib.Dec.{eqb, leb}
-use Rattle.rules.specs.Base.{pick}
-use Rattle.rules.specs.Policy.{kindOf, cutOf, lowOf, highOf, policyOf}
-use Rattle.rules.specs.declared.Kind.{Kind}
-use Rattle.rules.specs.declared.Kind.the-variants.{Invalid, Steal, Demote, Match}
 use Rattle.ways.specs.Walk.{Candidate, rated}
 
 -- the list that words hold: the first m of them, up to the first 0
@@ -60,28 +54,3 @@ from-more k m ws h l z =
     go : (w d : ℕ) (xs : List ℕ) → (w ≡ 0 → ⊥) → listOf (suc d) (w ∷ xs) ≡ rated (w / 2 ^ 32) (w % 2 ^ 32) ∷ listOf d xs
     go zero d xs z = absurd (z refl)
     go (suc w) d xs z = refl
-
--- the rating of a Match, 0 of others
-unfoldable pub ratingOf : Kind → ℕ
-ratingOf Invalid = 0
-ratingOf Steal = 0
-ratingOf Demote = 0
-ratingOf (Match r) = r
-
--- ratings are bytes
-
-pub small : (k : Kind) (r : ℕ) → k ≡ Match r → ratingOf k ≤ 255 → r ≤ 255
-unfolding ratingOf
-small k r e h = rw e at h
-
-either : (t : Bool) (x y : Kind) → ratingOf x ≤ 255 → ratingOf y ≤ 255 → ratingOf (pick t x y) ≤ 255
-either true x y p q = p
-either false x y p q = q
-
-pub policy-small : (w free : ℕ) → w < 2 ^ 32 → ratingOf (policyOf w free) ≤ 255
-unfolding policyOf ratingOf highOf lowOf
-policy-small w free h =
-    either (eqb (kindOf w) 0) _ _ (omega arith)
-    (either (eqb (kindOf w) 1) _ _ (omega arith)
-    (either (eqb (kindOf w) 2) _ _ (omega arith)
-    (either (leb (cutOf w) free) _ _ (omega arith) (omega arith))))

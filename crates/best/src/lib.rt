@@ -1,6 +1,5 @@
 // What a walk has by value: the tree at a step, its rating, the list of the best.
 use rules::Header;
-use rules::Kind;
 use rules::Request;
 use rules::Tree;
 use ways::Walk;
@@ -9,9 +8,8 @@ ghost use Prim.Native.Nat.{_+_, _*_, _%_, _^_, _<_, _≤_};
 ghost use lib.Dec.{eqb};
 ghost use Rattle.rules.specs.Base.{bitOf};
 ghost use Rattle.rules.specs.Words.{config};
-ghost use Rattle.rules.specs.Policy.{policyOf};
-ghost use Rattle.ways.specs.Walk.{place, ratedIn, rate, admit};
-ghost use Rattle.best.specs.List.{ratingOf, listOf};
+ghost use Rattle.ways.specs.Walk.{place, rate, admit};
+ghost use Rattle.best.specs.List.{listOf};
 
 // x modulo n, with no division where x is below 2n.
 fn within(x: usize, n: usize) -> usize
@@ -42,51 +40,6 @@ pub fn place(n: usize, start: usize, i: usize) -> usize
     within(start + n - back, n)
 }
 
-// The rating of a policy's answer in a walk: Invalid 0, Steal 1, Demote 2, Match r is 3 + r.
-pub fn rated_in(walk: Walk, full: bool, kind: Kind) -> usize
-    requires { ⌜ ratingOf kind ≤ 255 ⌝ }
-    ensures { λ r. ⌜ (r ≡ ratedIn walk full kind) × (r ≤ 258) ⌝ }
-{
-    match walk {
-        Walk::Near => match kind {
-            Kind::Invalid => 0,
-            Kind::Steal => 0,
-            Kind::Demote => {
-                if full {
-                    return 2;
-                }
-                0
-            }
-            Kind::Match(r) => 3 + r,
-        },
-        Walk::Far => match kind {
-            Kind::Invalid => 0,
-            Kind::Steal => 1,
-            Kind::Demote => {
-                if full {
-                    return 258;
-                }
-                2
-            }
-            Kind::Match(_) => 258,
-        },
-        Walk::Stealing => match kind {
-            Kind::Invalid => 0,
-            Kind::Steal => 1,
-            Kind::Demote => 2,
-            Kind::Match(r) => 3 + r,
-        },
-    }
-}
-
-// The rating of a pair's word in a walk, for a tree with so many free.
-fn rated_of(w: u32, walk: Walk, free: usize) -> usize
-    ensures { λ r. ⌜ (r ≡ ratedIn walk (eqb free 2048) (policyOf w free)) × (r ≤ 258) ⌝ }
-{
-    let kind = words::policy_of(w, free);
-    rated_in(walk, free == 2048, kind)
-}
-
 // The rating of a tree in a walk: 0 where it is reserved or has too little free.
 pub fn rate(h: Header, table: &[u32; 64], q: Request, walk: Walk, e: Tree) -> usize
     requires { ⌜ (q .order ≤ 11) × ((q .class < 8) × (e .class < 8)) ⌝ }
@@ -98,7 +51,7 @@ pub fn rate(h: Header, table: &[u32; 64], q: Request, walk: Walk, e: Tree) -> us
     if e.free < bits::size(q.order) {
         return 0;
     }
-    rated_of(table[q.class * 8 + e.class], walk, e.free)
+    ratings::rated_of(table[q.class * 8 + e.class], walk, e.free)
 }
 
 // What the list is ordered by: the rating, then fully free above not.

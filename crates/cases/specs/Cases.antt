@@ -1,5 +1,6 @@
--- Further worked cases, by computing the definitions, for what E1 to E12 leave open, with figures that the Rust gave, or that 01's text gives
--- where the Rust has no answer (Broken, Class 8, Local, Rows, a steal from a class without locals). Assumes nothing.
+-- 01, Bench examples: E1 to E12 as a single table with a single claim, by computing the definitions; and further worked cases for what E1 to E12
+-- leave open, with figures that the Rust gave, or that 01's text gives where the Rust has no answer (Broken, Class 8, Local, Rows, a steal from a
+-- class without locals). Assumes nothing.
 use mathlib.Core.Path.{_≡_, refl}
 use mathlib.Core.List.{List, [], _∷_, _++_}
 use Prim.Native.Nat.{ℕ, _+_, _*_}
@@ -20,7 +21,7 @@ use Rattle.ways.specs.Search.{near, roundDown, roundedStart, searchFar, searchF
 use Rattle.ways.specs.Get.{lastRoutes, getAt, startTree, orFrom, getReserving, searchTrees, getAny, routes}
 use Rattle.ways.specs.Standing.{lengthsExact, entryStands, holderStands, localStands, classStands, apart, apartBefore, reservedCount, presentCount, pastHeld, standing}
 use Rattle.ways.specs.Calls.{numberOf, outcomeOf, refuseLocal, refuseClass, refusal, unless, ifStanding, close, frameOf, get, putTo, onGiven, put, drainLocals, onDrained, drainClasses, closeDrain, drain, freeAtStart, freshTree, freshWord, freshState, start}
-use Rattle.ways.specs.Examples.{match255, demote, steal, tableT, tableT5, asks, gives, startsHeld, drains, stands, number, tree, local, Example, answered, given, heldWords, combed, anyone, local0, all5, counted}
+use Rattle.ways.specs.Examples.{match255, demote, steal, tableT, tableT5, asks, gives, startsHeld, drains, stands, number, tree, local, Example, answered, given, examples, further, heldWords, combed, anyone, local0, all5, counted}
 
 -- three classes with a local each, default 1: (0,0) as given, (1,1), (2,2) Match 255; (0,1) Demote; (0,2), (1,0) Steal
 abbrev pub three : ℕ → ℕ → Config
@@ -101,11 +102,23 @@ cases =
     ∷ record { of = tableT 2048 1 1; calls = stands (0x30000000 ∷ []) (0 ∷ 0x8080000000000000 ∷ []) (replicate 32 0) ∷ local0 0 0 ∷ []; figures = all5 ++ tree 0 ∷ local 0 ∷ local 1 ∷ []; wants = 0 ∷ 0 ∷ 0 ∷ 1 ∷ 1 ∷ 0x30000000 ∷ 0x807ff00000000000 ∷ 0 ∷ [] }
     -- the bound of looks, n + near − 1, is attained: nothing is free
     ∷ record { of = tableT 8192 1 1; calls = startsHeld ∷ local0 0 0 ∷ []; figures = all5; wants = 7 ∷ 0 ∷ 0 ∷ 7 ∷ 0 ∷ [] }
+    -- a full list admits no equal: the ninth tree, the only one with a block, is not tried
+    ∷ record { of = tableT5 18432; calls = stands (replicate 4 1792 ++ 2047 ∷ replicate 4 1792) (0 ∷ 0 ∷ []) (combed 128 ++ 1 ∷ replicate 31 0 ++ combed 128) ∷ anyone 3 0 ∷ []; figures = all5; wants = 7 ∷ 0 ∷ 0 ∷ 9 ∷ 8 ∷ [] }
     -- a full tree of another class than the default stands
     ∷ record { of = tableT 2048 1 1; calls = stands (0x800 ∷ []) (0 ∷ 0 ∷ []) (replicate 32 0) ∷ anyone 0 0 ∷ []; figures = all5 ++ tree 0 ∷ []; wants = 0 ∷ 0 ∷ 0 ∷ 1 ∷ 1 ∷ 0x7ff ∷ [] }
     ∷ []
 
--- the cases come out as given; and Broken is tried before Rows: seven rows lent, and an entry one too high
-pub claims : (answered cases ≡ given cases) × (counted 0x10000002 7 ≡ 1 ∷ 0 ∷ 0 ∷ 7 ∷ 7 ∷ 7 ∷ 7 ∷ 7 ∷ 7 ∷ [])
+-- statistics: seven rows are Rows; an entry one too high is Broken: zeros, and the rows as they were; Broken is tried before Rows
+abbrev pub tallied : List (List ℕ)
+tallied = counted 0x10000001 7 ∷ counted 0x10000002 8 ∷ counted 0x10000002 7 ∷ []
+
+abbrev pub untouched : List (List ℕ)
+untouched = (11 ∷ 0 ∷ 0 ∷ replicate 6 7) ∷ (1 ∷ 0 ∷ 0 ∷ replicate 6 7) ∷ (1 ∷ 0 ∷ 0 ∷ replicate 6 7) ∷ []
+
+-- E1 to E12, the further cases, the cases and the statistics come out as given
+pub claims : (answered examples ≡ given examples) × ((answered further ≡ given further) × ((answered cases ≡ given cases) × (tallied ≡ untouched)))
 unfolding ifte allBelow sum listed firstIn treeCount configured localsOf slot localCount treeOf treeWord localOf localWord pairOf kindOf cutOf lowOf highOf policyOf policy kindAt good pairFormed pairAccepted tableFormed rulesAt tableRules framesAccepted placesAccepted defaultAccepted accepted ifFull classAfter putOf stealKind stealOf reserveKind reserveOf unreserveKind unreserveOf syncOf entryPut keepTook entrySteal entryUnreserve keepTaken entryReserve keepSync entrySync inTree localTake localPut localRow localSwap localClear hasEnough cyclic firstLocal payerOr mayPay mayMove payerIn stealAny demoteAny held heldIn clearBits clear mark searchIn hasTree lowerFind lowerTake lowerGet lowerPut indexOf done missed missedAt stuck orElse withTrees withLocals withBits withTry withLook onTook onTaken onSync onHeld onPut onSwap onFound putEntry setRow askLower unreserve unreserveLocal takeBy topBy topUp getLocal ownLocal payFrom stealLocal demoteTo moveFrom demoteLocal place ratedIn rate insert admit stealGlobal reserved reserveOrSteal access tried offered visit onSight walkSteps walk tryList stopped searchBest near roundDown roundedStart searchFar searchFrom searchAndReserve searchAndSteal lastRoutes getAt startTree orFrom getReserving searchTrees getAny routes lengthsExact entryStands holderStands localStands classStands apart apartBefore reservedCount presentCount pastHeld standing numberOf outcomeOf refuseLocal refuseClass refusal unless ifStanding close frameOf get putTo onGiven put drainLocals onDrained drainClasses closeDrain drain freeAtStart freshTree freshWord freshState start overClass entryFree localFree entryAlloc reservedFree inUse tally tallies totalFree freeTrees statistics
-claims = (refl, refl)
+claims = (refl, (refl, (refl, refl)))
+
+pub claim : answered examples ≡ given examples
+claim = claims .0

@@ -1,2 +1,2 @@
--- cases that E1 to E12 leave open
+-- E1 to E12, and cases that they leave open
 pub mod Cases

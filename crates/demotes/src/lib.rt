@@ -35,7 +35,7 @@ fn demote_to(
     let local = q.local;
     match local {
         Given::Local(i) => {
-            let old = local::swap(locals, words::slot(h, q.class, i), l);
+            let old = swaps::swap(locals, words::slot(h, q.class, i), l);
             if !steps::unreserve_local(h, table, trees, q.class, old) {
                 return ends::stuck(looks, tries);
             }
@@ -71,9 +71,9 @@ fn move_from(
     let Payer::Local { class: _, slot } = payer else {
         return ends::missed(looks, tries);
     };
-    match local::take(locals, slot, name, bits::frames(q.order) as usize) {
+    match pays::take(locals, slot, name, bits::frames(q.order) as usize) {
         Held::Row(_) => {
-            let l = local::clear(locals, slot);
+            let l = swaps::clear(locals, slot);
             demote_to(h, table, trees, locals, bits, q, name, l, looks, tries)
         }
         Held::Few { row: _, free: _ } => ends::missed(looks, tries),

@@ -23,7 +23,7 @@ fn drain_local(
     ensures { λ r. ⌜ ((b : List ℕ) → out r (fresh (now (trees .exit)) (now (locals .exit)) b)
         ≡ drainOne (config h (now (table .entry))) class j (fresh (now (trees .entry)) (now (locals .entry)) b)) ⌝ }
 {
-    let l = local::clear(locals, j);
+    let l = swaps::clear(locals, j);
     steps::unreserve_local(h, table, trees, class, l)
 }
 

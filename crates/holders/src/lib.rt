@@ -17,10 +17,10 @@ pub fn apart(locals: &[u64]) -> bool
         let l = local::load(locals, j);
         if l.present {
             let tree = l.row / 32;
-            if !bits::is_free(&marks, 0, tree) {
+            if !blocks::is_free(&marks, 0, tree) {
                 return false;
             }
-            bits::hold(&mut marks, 0, tree);
+            fills::hold(&mut marks, 0, tree);
         }
         j += 1;
     }

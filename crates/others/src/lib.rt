@@ -34,7 +34,7 @@ fn pay_from(
     let Payer::Local { class, slot } = payer else {
         return ends::missed(looks, tries);
     };
-    match local::take(locals, slot, name, bits::frames(q.order) as usize) {
+    match pays::take(locals, slot, name, bits::frames(q.order) as usize) {
         Held::Row(row) => {
             steps::ask_lower(h, table, trees, bits, q, name, row, class, looks, tries)
         }

@@ -35,7 +35,7 @@ pub fn at_row(
 {
     match lower::lower_get(bits, row, q.order, name) {
         Found::At(f) => {
-            local::set_start(locals, j, f / 64);
+            swaps::set_start(locals, j, f / 64);
             ends::done(f, q.class, looks, tries + 1)
         }
         Found::Nothing => {
@@ -65,7 +65,7 @@ pub fn topped(
     }
     match trees::sync(trees, row / 32, n - free) {
         Synced::Free(x) => {
-            if local::put(locals, j, row / 32, x as usize) {
+            if pays::put(locals, j, row / 32, x as usize) {
                 return true;
             }
             trees::put(h, table, trees, row / 32, x as usize);

@@ -35,7 +35,7 @@ fn put_to(
         }
         Given::Local(i) => {
             let j = words::slot(h, q.class, i);
-            if local::put(locals, j, t, n) {
+            if pays::put(locals, j, t, n) {
                 return;
             }
             trees::put(h, table, trees, t, n);

@@ -47,7 +47,7 @@ pub fn reserved(
     match lower::lower_get(bits, t * 32, q.order, Name::Any) {
         Found::At(f) => {
             let free = words::less(old as usize, bits::frames(q.order) as usize);
-            let l = local::swap(locals, j, reservation(t, free));
+            let l = swaps::swap(locals, j, reservation(t, free));
             if steps::unreserve_local(h, table, trees, q.class, l) {
                 return ends::done(f, q.class, looks, tries + 1);
             }

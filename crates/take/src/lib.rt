@@ -31,7 +31,7 @@ pub fn get_local(
         ≡ getLocal syncs (config h (now (table .entry))) q name j (st (now (trees .entry)) (now (locals .entry)) (now (bits .entry)) looks tries))
         × ((r .looks ≤ looks) × (r .tries ≤ tries + 1)) ⌝ }
 {
-    match local::take(locals, j, name, bits::frames(q.order) as usize) {
+    match pays::take(locals, j, name, bits::frames(q.order) as usize) {
         Held::Row(row) => own::at_row(h, table, trees, locals, bits, q, name, j, row, looks, tries),
         Held::Few { row, free } => top_up(
             h,

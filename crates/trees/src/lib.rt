@@ -1,7 +1,6 @@
-// Entries of the lent tree words. Total: an entry that is not there reads 0, and a store to it does nothing.
+// The lent tree words: an entry read, put, unreserved, synced. Total: an entry that is not there reads 0, and a store to it does nothing.
 use rules::Header;
 use rules::Synced;
-use rules::Taken;
 use rules::Took;
 use rules::Tree;
 ghost use mathlib.Core.Path.{_≡_};
@@ -9,7 +8,7 @@ ghost use Prim.Native.Nat.{_^_, _<_};
 ghost use lib.ListN.{getD, set};
 ghost use Rattle.rules.specs.Base.{out};
 ghost use Rattle.rules.specs.Words.{config, entryAt};
-ghost use Rattle.rules.specs.Entries.{entryPut, entrySteal, entryReserve, entryUnreserve, entrySync};
+ghost use Rattle.rules.specs.Entries.{entryPut, entryUnreserve, entrySync};
 
 // The word of a tree.
 fn word(trees: &[u32], t: usize) -> u32
@@ -19,7 +18,7 @@ fn word(trees: &[u32], t: usize) -> u32
 }
 
 // A tree has this word from now on.
-fn store(trees: &mut [u32], t: usize, w: u32)
+pub fn store(trees: &mut [u32], t: usize, w: u32)
     ensures { λ _. ⌜ now (trees .exit) ≡ set (now (trees .entry)) t w ⌝ }
 {
     if t < trees.len() {
@@ -41,54 +40,6 @@ pub fn put(h: Header, table: &[u32; 64], trees: &mut [u32], t: usize, n: usize)
 {
     let old = load(trees, t);
     store(trees, t, words::tree_word(entries::put(h, table, old, n)));
-}
-
-// Steal: the entry that is left, or a refusal.
-pub fn steal(
-    h: Header,
-    table: &[u32; 64],
-    trees: &mut [u32],
-    t: usize,
-    class: usize,
-    n: usize,
-) -> Took
-    requires { ⌜ class < 8 ⌝ }
-    ensures { λ r. ⌜ out r (now (trees .exit)) ≡ entrySteal (config h (now (table .entry))) (now (trees .entry)) t class n ⌝ }
-{
-    let old = load(trees, t);
-    match entries::steal(h, table, old, class, n) {
-        Took::No => Took::No,
-        Took::Yes(left) => {
-            store(trees, t, words::tree_word(left));
-            Took::Yes(left)
-        }
-    }
-}
-
-// Reserve or steal: the entry that is left; with the whole of it, the frames that it had.
-pub fn reserve_or_steal(
-    h: Header,
-    table: &[u32; 64],
-    trees: &mut [u32],
-    t: usize,
-    class: usize,
-    n: usize,
-) -> Taken
-    requires { ⌜ class < 8 ⌝ }
-    ensures { λ r. ⌜ out r (now (trees .exit)) ≡ entryReserve (config h (now (table .entry))) (now (trees .entry)) t class n ⌝ }
-{
-    let old = load(trees, t);
-    match entries::reserve_or_steal(h, table, old, class, n) {
-        Taken::No => Taken::No,
-        Taken::Part(part) => {
-            store(trees, t, words::tree_word(part));
-            Taken::Part(part)
-        }
-        Taken::Whole(reserved, free) => {
-            store(trees, t, words::tree_word(reserved));
-            Taken::Whole(reserved, free)
-        }
-    }
 }
 
 // Unreserve: a holder of this class returns its frames to a reserved entry. No: the entry is unreserved, or the pair is not good.

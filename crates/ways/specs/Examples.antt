@@ -1,5 +1,6 @@
--- 01, Bench examples: E1 to E12 as a single table with a single claim, by computing the definitions; and further cases that refuse wrong
--- definitions which E1 to E12 let pass, with figures that the Rust gave, or that 01's text gives where the Rust has no answer. More are in crate `cases`. Assumes nothing.
+-- 01, Bench examples: the table of E1 to E12, and further cases that refuse wrong definitions which E1 to E12 let pass, with figures that the Rust
+-- gave, or that 01's text gives where the Rust has no answer; both by computing the definitions behind the test of the whole state, which is nearly
+-- all of a call's work. Crate `cases` has both, and more, with that test. Assumes nothing.
 use mathlib.Core.Path.{_≡_, refl}
 use mathlib.Core.Bool.{true, false}
 use mathlib.Core.List.{List, [], _∷_, _++_}
@@ -15,6 +16,7 @@ use Rattle.rules.specs.declared.Name.{Name}
 use Rattle.rules.specs.declared.Name.the-variants.{Any, Frame}
 use Rattle.rules.specs.declared.Given.{Given}
 use Rattle.rules.specs.declared.Given.the-variants as Given
+use Rattle.rules.specs.declared.Request.{Request}
 use Rattle.ways.specs.declared.Tally.{Tally}
 use Rattle.ways.specs.Statistics
 use Rattle.ways.specs.Statistics.{Report, overClass, entryFree, localFree, entryAlloc, reservedFree, inUse, tally, totalFree, freeTrees, statistics}
@@ -73,18 +75,26 @@ seen r (local j) = getD (r .locals) j 0
 abbrev pub paste : List ℕ → ℕ → List ℕ → List ℕ
 paste ws i xs = take i ws ++ xs ++ drop (i + length xs) ws
 
-abbrev pub call : Config → Told → Call → Told
-call c r (asks o k l f) = get c (record { order = o; class = k; local = l }) f (r .trees) (r .locals) (r .bits)
-call c r (gives o k l f) = put c (record { order = o; class = k; local = l }) f (r .trees) (r .locals) (r .bits)
-call c r (stands ts ls bs) = telling 0 0 0 (fresh ts ls bs)
-call c r drains = drain c (r .trees) (r .locals) (r .bits)
-call c r startsHeld = start c false (r .trees) (r .locals) (r .bits)
-call c r starts = start c true (r .trees) (r .locals) (r .bits)
-call c r (holds t e j l xs) = telling 0 0 0 (fresh (set (r .trees) t e) (set (r .locals) j l) (paste (r .bits) (treeRows (c .order) * t) xs))
+-- what a get of these arguments and words tells
+abbrev pub Gets : Type 0
+Gets = Config → Request → Name → List ℕ → List ℕ → List ℕ → Told
 
-abbrev pub after : Config → Told → List Call → Told
-after c r [] = r
-after c r (x ∷ xs) = after c (call c r x) xs
+-- a get behind the test of the whole state: the refusals 2 to 6, then the routes
+abbrev pub untested : Gets
+untested c q name t l b = unless (refusal c q (frameOf name)) (fresh t l b) (λ s. close (routes c q name s))
+
+abbrev pub call : Gets → Config → Told → Call → Told
+call g c r (asks o k l f) = g c (record { order = o; class = k; local = l }) f (r .trees) (r .locals) (r .bits)
+call g c r (gives o k l f) = put c (record { order = o; class = k; local = l }) f (r .trees) (r .locals) (r .bits)
+call g c r (stands ts ls bs) = telling 0 0 0 (fresh ts ls bs)
+call g c r drains = drain c (r .trees) (r .locals) (r .bits)
+call g c r startsHeld = start c false (r .trees) (r .locals) (r .bits)
+call g c r starts = start c true (r .trees) (r .locals) (r .bits)
+call g c r (holds t e j l xs) = telling 0 0 0 (fresh (set (r .trees) t e) (set (r .locals) j l) (paste (r .bits) (treeRows (c .order) * t) xs))
+
+abbrev pub after : Gets → Config → Told → List Call → Told
+after g c r [] = r
+after g c r (x ∷ xs) = after g c (call g c r x) xs
 
 -- an example: the configuration, all free at the start; the calls; figures of the last one
 pub record Example : Type 0 where
@@ -97,13 +107,27 @@ pub record Example : Type 0 where
 abbrev pub lent : Config → Told
 lent c = telling 0 0 0 (fresh (replicate (trees c) 7) (replicate (localCount (c .places)) 7) (replicate (treeRows (c .order) * trees c) 7))
 
+-- what a start tells, all free; what it tells behind its tests
+abbrev pub started : Config → Told
+started c = start c true (lent c .trees) (lent c .locals) (lent c .bits)
+
+abbrev pub begun : Config → Told
+begun c = telling 0 0 0 (freshState c (c .frames))
+
 abbrev pub figuresOf : Told → List Figure → List ℕ
 figuresOf r [] = []
 figuresOf r (x ∷ xs) = seen r x ∷ figuresOf r xs
 
+abbrev pub answeredBy : (Config → Told) → Gets → List Example → List (List ℕ)
+answeredBy b g [] = []
+answeredBy b g (x ∷ xs) = figuresOf (after g (x .of) (b (x .of)) (x .calls)) (x .figures) ∷ answeredBy b g xs
+
+-- what the examples' calls answer; the same behind the tests
 abbrev pub answered : List Example → List (List ℕ)
-answered [] = []
-answered (x ∷ xs) = figuresOf (after (x .of) (start (x .of) true (lent (x .of) .trees) (lent (x .of) .locals) (lent (x .of) .bits)) (x .calls)) (x .figures) ∷ answered xs
+answered xs = answeredBy started get xs
+
+abbrev pub behind : List Example → List (List ℕ)
+behind xs = answeredBy begun untested xs
 
 abbrev pub given : List Example → List (List ℕ)
 given [] = []
@@ -190,12 +214,14 @@ further =
     ∷ record { of = tableT 4096 1 1; calls = stands (0x20000800 ∷ 0x10000005 ∷ []) (0x8000000000000020 ∷ 0 ∷ []) (replicate 32 0 ++ heldWords 31 ++ 0x07ffffffffffffff ∷ []) ∷ asks 0 0 (Given.Local 0) (Frame 0) ∷ []; figures = all5 ++ tree 1 ∷ local 0 ∷ []; wants = 0 ∷ 0 ∷ 0 ∷ 0 ∷ 1 ∷ 0x10000000 ∷ 0x8000500000000020 ∷ [] }
     -- locals not below n: the stealing search, and no reservation
     ∷ record { of = tableT 2048 1 1; calls = local0 0 1 ∷ []; figures = all5 ++ tree 0 ∷ local 1 ∷ []; wants = 0 ∷ 0 ∷ 1 ∷ 1 ∷ 1 ∷ 0x200007ff ∷ 0 ∷ [] }
-    -- a full list admits no equal: the ninth tree, the only one with a block, is not tried
-    ∷ record { of = tableT5 18432; calls = stands (replicate 4 1792 ++ 2047 ∷ replicate 4 1792) (0 ∷ 0 ∷ []) (combed 128 ++ 1 ∷ replicate 31 0 ++ combed 128) ∷ anyone 3 0 ∷ []; figures = all5; wants = 7 ∷ 0 ∷ 0 ∷ 9 ∷ 8 ∷ [] }
     -- a present own reservation that failed gives its tree as the start: 8
     ∷ record { of = tableT 18432 1 1; calls = holds 8 0x10000000 0 0x8000000000000100 (heldWords 32) ∷ local0 0 0 ∷ []; figures = all5; wants = 0 ∷ 14336 ∷ 0 ∷ 3 ∷ 1 ∷ [] }
+    ∷ []
+
+abbrev pub broken : List Example
+broken =
     -- Broken: bits past F clear; two locals on one tree
-    ∷ record { of = tableT 2047 1 1; calls = stands (0x20000800 ∷ []) (0 ∷ 0 ∷ []) (replicate 32 0) ∷ anyone 0 1 ∷ []; figures = number ∷ []; wants = 1 ∷ [] }
+    record { of = tableT 2047 1 1; calls = stands (0x20000800 ∷ []) (0 ∷ 0 ∷ []) (replicate 32 0) ∷ anyone 0 1 ∷ []; figures = number ∷ []; wants = 1 ∷ [] }
     ∷ record { of = tableT 4096 2 1; calls = stands (0x10000000 ∷ 0x30000800 ∷ []) (0x8080000000000000 ∷ 0x8080000000000000 ∷ 0 ∷ 0 ∷ []) (replicate 64 0) ∷ anyone 0 1 ∷ []; figures = number ∷ []; wants = 1 ∷ [] }
     ∷ []
 
@@ -219,17 +245,9 @@ counted entry0 n =
     figuresIn (statistics (record { order = 11; frames = 6144; default = 1; places = 3 ∷ 2 ∷ replicate 6 0; pairs = match255 ∷ demote ∷ replicate 6 0 ++ steal ∷ match255 ∷ replicate 54 0 })
     (entry0 ∷ 0x30000000 ∷ 0x20000800 ∷ []) (0x807FF00000000000 ∷ 0x8080000000000020 ∷ 0 ∷ []) (replicate 96 0) (lentRows n))
 
--- Done; seven rows are Rows; an entry one too high is Broken: zeros, and the rows as they were
-abbrev pub tallied : List (List ℕ)
-tallied = counted 0x10000001 8 ∷ counted 0x10000001 7 ∷ counted 0x10000002 8 ∷ []
-
-abbrev pub tallies : List (List ℕ)
-tallies = (0 ∷ 6144 ∷ 2 ∷ 4096 ∷ 2047 ∷ 0 ∷ 2048 ∷ 2048 ∷ 0 ∷ []) ∷ (11 ∷ 0 ∷ 0 ∷ 7 ∷ 7 ∷ 7 ∷ 7 ∷ 7 ∷ 7 ∷ []) ∷ (1 ∷ 0 ∷ 0 ∷ 7 ∷ 7 ∷ 7 ∷ 7 ∷ 7 ∷ 7 ∷ []) ∷ []
-
--- E1 to E12, the further cases and the statistics come out as given
-pub claims : (answered examples ≡ given examples) × ((answered further ≡ given further) × (tallied ≡ tallies))
+-- E1 to E12 and the further cases come out as given behind the tests; the broken states are refused; the statistics are as given
+pub claims :
+    (behind examples ≡ given examples)
+    × ((behind further ≡ given further) × ((answered broken ≡ given broken) × (counted 0x10000001 8 ≡ 0 ∷ 6144 ∷ 2 ∷ 4096 ∷ 2047 ∷ 0 ∷ 2048 ∷ 2048 ∷ 0 ∷ [])))
 unfolding ifte allBelow sum listed firstIn treeCount configured localsOf slot localCount treeOf treeWord localOf localWord pairOf kindOf cutOf lowOf highOf policyOf policy kindAt good pairFormed pairAccepted tableFormed rulesAt tableRules framesAccepted placesAccepted defaultAccepted accepted ifFull classAfter putOf stealKind stealOf reserveKind reserveOf unreserveKind unreserveOf syncOf entryPut keepTook entrySteal entryUnreserve keepTaken entryReserve keepSync entrySync inTree localTake localPut localRow localSwap localClear hasEnough cyclic firstLocal payerOr mayPay mayMove payerIn stealAny demoteAny held heldIn clearBits clear mark searchIn hasTree lowerFind lowerTake lowerGet lowerPut indexOf done missed missedAt stuck orElse withTrees withLocals withBits withTry withLook onTook onTaken onSync onHeld onPut onSwap onFound putEntry setRow askLower unreserve unreserveLocal takeBy topBy topUp getLocal ownLocal payFrom stealLocal demoteTo moveFrom demoteLocal place ratedIn rate insert admit stealGlobal reserved reserveOrSteal access tried offered visit onSight walkSteps walk tryList stopped searchBest near roundDown roundedStart searchFar searchFrom searchAndReserve searchAndSteal lastRoutes getAt startTree orFrom getReserving searchTrees getAny routes lengthsExact entryStands holderStands localStands classStands apart apartBefore reservedCount presentCount pastHeld standing numberOf outcomeOf refuseLocal refuseClass refusal unless ifStanding close frameOf get putTo onGiven put drainLocals onDrained drainClasses closeDrain drain freeAtStart freshTree freshWord freshState start overClass entryFree localFree entryAlloc reservedFree inUse tally Statistics.tallies totalFree freeTrees statistics
-claims = (refl, (refl, refl))
-
-pub claim : answered examples ≡ given examples
-claim = claims .0
+claims = (refl, (refl, (refl, refl)))

@@ -1,10 +1,16 @@
 -- `starts::start_body` meets its contract. Assumes nothing.
+use Prim.Native.Nat.{ℕ, _*_, _^_, _<_, _≤_}
 use native.Mathlib.Omega.{arith}
+use Rattle.policy_laws.specs.Count.{count-most}
+use Rattle.rules.specs.Words.{treeCount}
 use Rattle.ways.specs.Calls.{freshState}
-use Rattle.starts.specs.Fill.{words-few}
 use borrow.Author.Needs.{needs}
 use Rattle.starts.proofs.start_body.Statement.{statement}
 use Rattle.starts.proofs.start_body.Tie as tie
+
+-- the number of trees of so many frames, in words of the bitmap
+words-few : (f : ℕ) → f ≤ 2 ^ 21 → 32 * treeCount 11 f < 2 ^ 32
+words-few f l = omega (arith, count-most 11 f l)
 
 free-at-start-requires : tie.Need-free-at-start-requires
 free-at-start-requires c κs = search needs

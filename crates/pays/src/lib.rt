@@ -1,0 +1,58 @@
+// Frames leave a local of the lent words, or come to it. Total: a local that is not there reads as absent, and a store to it does nothing.
+use rules::Held;
+use rules::Local;
+use rules::Name;
+ghost use mathlib.Core.Path.{_≡_};
+ghost use Prim.Native.Nat.{_^_, _<_};
+ghost use Rattle.rules.specs.Base.{out};
+ghost use Rattle.rules.specs.Locals.{localTake, localPut};
+
+// Subtract from a local: the answer is its row.
+pub fn take(locals: &mut [u64], j: usize, name: Name, n: usize) -> Held
+    ensures { λ r. ⌜ out r (now (locals .exit)) ≡ localTake 11 (now (locals .entry)) j name n ⌝ }
+{
+    let l = local::load(locals, j);
+    if l.present {
+        if local::in_tree(l.row, name) {
+            if n <= l.free {
+                let left = Local {
+                    row: l.row,
+                    free: l.free - n,
+                    present: true,
+                };
+                local::store(locals, j, words::local_word(left));
+                return Held::Row(l.row);
+            }
+            return Held::Few {
+                row: l.row,
+                free: l.free,
+            };
+        }
+        return Held::Few {
+            row: l.row,
+            free: l.free,
+        };
+    }
+    Held::Absent
+}
+
+// Add to a local that holds the tree.
+pub fn put(locals: &mut [u64], j: usize, tree: usize, n: usize) -> bool
+    requires { ⌜ n < 2 ^ 32 ⌝ }
+    ensures { λ r. ⌜ out r (now (locals .exit)) ≡ localPut 11 (now (locals .entry)) j tree n ⌝ }
+{
+    let held = local::load(locals, j);
+    if held.present {
+        if held.row / 32 == tree {
+            let more = Local {
+                row: held.row,
+                free: held.free + n,
+                present: true,
+            };
+            local::store(locals, j, words::local_word(more));
+            return true;
+        }
+        return false;
+    }
+    false
+}

@@ -1,0 +1,21 @@
+-- `ratings::rated_of` meets its contract: a rating is a byte, since a pair is a u32. Assumes nothing.
+use borrow.Author.Needs.{needs}
+use Rattle.ratings.specs.Rating.{policy-small}
+use Rattle.ratings.proofs.rated_of.Statement.{statement}
+use Rattle.ratings.proofs.rated_of.Tie as tie
+use Rattle.ratings.proofs.rated_of.Reads as reads
+use Rattle.ratings.proofs.rated_of.Lts as lts
+use Rattle.ratings.proofs.rated_in.Reads as rated-in-reads
+use Rattle.words.proofs.policy_of.Reads as policy-of-reads
+
+policy-of-requires : tie.Need-policy-of-requires
+policy-of-requires c κs = search needs
+
+rated-in-requires : tie.Need-rated-in-requires
+rated-in-requires c κs = rw (c .policy-of .ensures) (policy-small _ _ (search needs))
+
+returns : tie.Need-returns
+returns c = (rw (← c .before .policy-of .ensures) (c .rated-in .ensures .0), search needs)
+
+pub rated-of-spec : {M : Type 1} → statement M
+rated-of-spec = tie.close (tie.spec policy-of-requires rated-in-requires returns)

@@ -1,0 +1,2 @@
+-- the rating of a policy's answer
+pub mod Rating

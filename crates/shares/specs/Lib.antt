@@ -1,0 +1,2 @@
+-- laws of a part's share; the definitions are in `ways`
+pub mod Share

@@ -1,0 +1,78 @@
+// What an entry yields to a requested class, by value: a steal, a reservation or a steal.
+use rules::Header;
+use rules::Kind;
+use rules::Taken;
+use rules::Took;
+use rules::Tree;
+ghost use mathlib.Core.Path.{_≡_};
+ghost use Prim.Native.Nat.{_^_, _<_};
+ghost use Rattle.rules.specs.Words.{config};
+ghost use Rattle.rules.specs.Entries.{stealOf, reserveOf};
+
+// Steal: the entry that is left, or a refusal.
+pub fn steal(h: Header, table: &[u32; 64], t: Tree, class: usize, n: usize) -> Took
+    requires { ⌜ (class < 8) × (t .class < 8) ⌝ }
+    ensures { λ r. ⌜ r ≡ stealOf (config h (now (table .entry))) t class n ⌝ }
+{
+    if t.reserved {
+        return Took::No;
+    }
+    if t.free < n {
+        return Took::No;
+    }
+    match words::ask(h, table, class, t.class, n) {
+        Kind::Invalid => Took::No,
+        Kind::Steal => Took::Yes(Tree {
+            free: t.free - n,
+            reserved: false,
+            class: t.class,
+        }),
+        Kind::Demote => Took::Yes(Tree {
+            free: t.free - n,
+            reserved: false,
+            class: class,
+        }),
+        Kind::Match(_) => Took::Yes(Tree {
+            free: t.free - n,
+            reserved: false,
+            class: class,
+        }),
+    }
+}
+
+// Reserve or steal: the entry that is left; with the whole of it, the frames that it had.
+pub fn reserve_or_steal(h: Header, table: &[u32; 64], t: Tree, class: usize, n: usize) -> Taken
+    requires { ⌜ (class < 8) × ((t .class < 8) × (t .free < 2 ^ 32)) ⌝ }
+    ensures { λ r. ⌜ r ≡ reserveOf (config h (now (table .entry))) t class n ⌝ }
+{
+    if t.reserved {
+        return Taken::No;
+    }
+    if t.free < n {
+        return Taken::No;
+    }
+    match words::ask(h, table, class, t.class, n) {
+        Kind::Invalid => Taken::No,
+        Kind::Steal => Taken::Part(Tree {
+            free: t.free - n,
+            reserved: false,
+            class: t.class,
+        }),
+        Kind::Demote => Taken::Whole(
+            Tree {
+                free: 0,
+                reserved: true,
+                class: class,
+            },
+            t.free as u32,
+        ),
+        Kind::Match(_) => Taken::Whole(
+            Tree {
+                free: 0,
+                reserved: true,
+                class: class,
+            },
+            t.free as u32,
+        ),
+    }
+}
