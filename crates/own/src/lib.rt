@@ -1,4 +1,4 @@
-// llfree.rs, get_local: the parts of a take from the own local that call on neither of its halves: ask at its row, top it up.
+// llfree.rs, get_local: the parts of a take from the own local that call neither `get_local` nor `top_up`: ask at its row, add what a sync gave.
 use rules::Found;
 use rules::Header;
 use rules::Name;
