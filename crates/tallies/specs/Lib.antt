@@ -1,3 +1,2 @@
--- sums over the first trees and locals; the definitions are in `ways`
-pub mod Sums
+-- the eight rows; the definitions are in `ways`
 pub mod Rows

@@ -4,12 +4,17 @@ use mathlib.Core.List.{List, [], _∷_}
 use Prim.Native.Nat.{ℕ, _+_, _-_, _*_, _^_, _<_}
 use native.Mathlib.Omega.{arith}
 use lib.ListN.{length, getD, set}
-use Rattle.rules.specs.Words.{Config, trees, treeFrames, localCount}
+use Rattle.rules.specs.Base.{sum}
+use Rattle.rules.specs.Words.{Config, trees, treeFrames, localCount, localAt}
 use Rattle.ways.specs.declared.Tally.{Tally}
 use Rattle.ways.specs.Statistics.{localFree, entryFree, entryAlloc, inUse, overClass, reservedFree, tally, tallies}
 use Rattle.tallies.specs.declared.Rows.{Rows}
-use Rattle.tallies.specs.declared.Entries.{Entries}
-use Rattle.tallies.specs.Sums.{freeAt, allocAt, treeAt, heldOn, Summed}
+use Rattle.by_class.specs.declared.Entries.{Entries}
+use Rattle.by_class.specs.Sums.{freeAt, allocAt, treeAt, heldOn, Summed}
+
+-- the free of the n locals from a place on
+unfoldable pub freeFrom : List ℕ → ℕ → ℕ → ℕ
+freeFrom ls first n = sum (λ i. localAt ls (first + i) .free) 0 n
 
 -- the rows that f gives for the classes
 abbrev pub rowsOf : (ℕ → Tally) → Rows

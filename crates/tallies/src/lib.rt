@@ -1,52 +1,13 @@
 // The rows of the statistics by value: the row of a class, the eight rows.
+use by_class::Entries;
 use rules::Header;
-use rules::Local;
 use ways::Tally;
 ghost use mathlib.Core.Path.{_≡_};
-ghost use Prim.Native.Nat.{_*_, _+_, _-_, _^_, _<_, _≤_};
+ghost use Prim.Native.Nat.{_^_, _<_, _≤_};
 ghost use lib.ListN.{getD};
-ghost use Rattle.rules.specs.Base.{pick};
 ghost use Rattle.rules.specs.Words.{config};
 ghost use Rattle.ways.specs.Statistics.{localFree, tally};
 ghost use Rattle.tallies.specs.Rows.{rowsOf, rowOf};
-ghost use Rattle.tallies.specs.Sums.{freeAt, allocAt, treeAt, heldOn, Summed};
-
-// By class, of the entries that have it: their free, 2,048 less their free, their number.
-pub struct Entries {
-    pub free: [usize; 8],
-    pub alloc: [usize; 8],
-    pub trees: [usize; 8],
-}
-
-// What a tree has beside its free.
-fn rest(free: usize) -> usize
-    ensures { λ r. ⌜ (r ≡ 2048 - free) × (r ≤ 2048) ⌝ }
-{
-    if free < 2048 { 2048 - free } else { 0 }
-}
-
-// The first n entries, by class.
-fn entries_by_class(trees: &[u32], n: usize) -> Entries
-    requires { ⌜ n ≤ 1024 ⌝ }
-    ensures { λ r. ⌜ Summed (freeAt (now (trees .entry))) (2 ^ 28) (r .free) n
-        × (Summed (allocAt 11 (now (trees .entry))) 2048 (r .alloc) n × Summed (treeAt (now (trees .entry))) 1 (r .trees) n) ⌝ }
-{
-    let mut free = [0usize; 8];
-    let mut alloc = [0usize; 8];
-    let mut count = [0usize; 8];
-    for t in 0..n {
-        let e = trees::load(trees, t);
-        let k = e.class;
-        free[k] = free[k] + e.free;
-        alloc[k] = alloc[k] + rest(e.free);
-        count[k] = count[k] + 1;
-    }
-    Entries {
-        free: free,
-        alloc: alloc,
-        trees: count,
-    }
-}
 
 // The free of the locals of a class.
 fn local_free(h: Header, table: &[u32; 64], locals: &[u64], class: usize) -> usize
@@ -59,28 +20,6 @@ fn local_free(h: Header, table: &[u32; 64], locals: &[u64], class: usize) -> usi
     for i in 0..n {
         let l = local::load(locals, first + i);
         free = free + l.free;
-    }
-    free
-}
-
-// The free of a local that is present, else 0.
-fn present_free(l: Local) -> usize
-    ensures { λ r. ⌜ (r ≡ pick (l .present) (l .free) 0) × (r ≤ l .free) ⌝ }
-{
-    if l.present { l.free } else { 0 }
-}
-
-// The free of the first n locals that are present, by the class of their tree's entry.
-fn reserved_by_class(trees: &[u32], locals: &[u64], n: usize) -> [usize; 8]
-    requires { ⌜ n < 2048 ⌝ }
-    ensures { λ r. ⌜ Summed (heldOn 11 (now (trees .entry)) (now (locals .entry))) (2 ^ 19) r n ⌝ }
-{
-    let mut free = [0usize; 8];
-    for j in 0..n {
-        let l = local::load(locals, j);
-        let e = trees::load(trees, l.row / 32);
-        let k = e.class;
-        free[k] = free[k] + present_free(l);
     }
     free
 }
@@ -136,8 +75,8 @@ pub fn all_rows<'a>(h: Header, table: &'a [u32; 64], trees: &'a [u32], locals: &
     requires { ⌜ h .frames ≤ 2 ^ 21 ⌝ }
     ensures { λ r. ⌜ r ≡ rowsOf (tally (config h (now (table .entry))) (now (trees .entry)) (now (locals .entry))) ⌝ }
 {
-    let e = entries_by_class(trees, words::tree_count(h.frames));
-    let held = reserved_by_class(trees, locals, words::first_slot(h, 8));
+    let e = by_class::entries_by_class(trees, words::tree_count(h.frames));
+    let held = by_class::reserved_by_class(trees, locals, words::first_slot(h, 8));
     Rows {
         r0: class_row(h, table, locals, e, held, 0),
         r1: class_row(h, table, locals, e, held, 1),

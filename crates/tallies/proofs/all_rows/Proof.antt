@@ -5,7 +5,7 @@ use native.Mathlib.Omega.{arith}
 use Rattle.rules.specs.Words.{config, localCount}
 use Rattle.ways.specs.Statistics.{localFree, tally}
 use Rattle.policy_laws.specs.Count.{count-most}
-use Rattle.tallies.specs.Sums.{summed-few}
+use Rattle.by_class.specs.Sums.{summed-few}
 use Rattle.tallies.specs.Rows.{rowOf, row-is, eight}
 use borrow.Author.Needs.{needs}
 use Rattle.tallies.proofs.all_rows.Statement.{statement}

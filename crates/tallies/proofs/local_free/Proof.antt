@@ -7,7 +7,7 @@ use Rattle.rules.specs.Base.{sum}
 use Rattle.words.specs.Sums.{sum-more}
 use Rattle.rules.specs.Words.{slot}
 use Rattle.ways.specs.Statistics.{localFree}
-use Rattle.tallies.specs.Sums.{freeFrom}
+use Rattle.tallies.specs.Rows.{freeFrom}
 use Rattle.tallies.proofs.local_free.Statement.{statement}
 use Rattle.tallies.proofs.local_free.Tie as tie
 

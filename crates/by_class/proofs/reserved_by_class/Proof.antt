@@ -1,12 +1,12 @@
--- `tallies::reserved_by_class` meets its contract. The loop's invariant: the sums by class over the locals passed. Assumes nothing.
+-- `by_class::reserved_by_class` meets its contract. The loop's invariant: the sums by class over the locals passed. Assumes nothing.
 use mathlib.Core.Path.{_≡_}
 use Prim.Native.Nat.{_-_, _^_, _≤_}
 use native.Mathlib.Omega.{arith}
 use lib.Dec.{eqb}
 use borrow.Author.Needs.{needs}
-use Rattle.tallies.specs.Sums.{heldOn, both-picked, Summed, summed-none, summed-more}
-use Rattle.tallies.proofs.reserved_by_class.Statement.{statement}
-use Rattle.tallies.proofs.reserved_by_class.Tie as tie
+use Rattle.by_class.specs.Sums.{heldOn, both-picked, Summed, summed-none, summed-more}
+use Rattle.by_class.proofs.reserved_by_class.Statement.{statement}
+use Rattle.by_class.proofs.reserved_by_class.Tie as tie
 
 abbrev Inv-loop : tie.InvT-loop
 Inv-loop trees locals n free₀ j₀ free j = (j ≤ n) × Summed (heldOn 11 trees locals) (2 ^ 19) free j

@@ -1,8 +1,8 @@
--- `payers::has_enough` meets its contract. Assumes nothing.
+-- `turns::has_enough` meets its contract. Assumes nothing.
 use Rattle.rules.specs.Locals.{hasEnough}
 use borrow.Author.Needs.{needs}
-use Rattle.payers.proofs.has_enough.Statement.{statement}
-use Rattle.payers.proofs.has_enough.Tie as tie
+use Rattle.turns.proofs.has_enough.Statement.{statement}
+use Rattle.turns.proofs.has_enough.Tie as tie
 
 in-tree-requires : tie.Need-in-tree-requires
 in-tree-requires c κs = search needs

@@ -1,4 +1,4 @@
--- `payers::first_local` meets its contract. The loop's invariant: `j` is the place that is d further than the given index, and none before it has enough.
+-- `turns::first_local` meets its contract. The loop's invariant: `j` is the place that is d further than the given index, and none before it has enough.
 -- Assumes nothing.
 use mathlib.Core.Path.{_≡_, refl, sym, _∙_}
 use Prim.Native.Nat.{_+_, _-_, _≤_, _<_, _%_}
@@ -8,9 +8,9 @@ use borrow.Author.Needs.{needs}
 use Rattle.rules.specs.Base.{firstIn}
 use Rattle.rules.specs.declared.Found.the-variants.{Nothing}
 use Rattle.lower_laws.specs.First.{first-more}
-use Rattle.payers.specs.Loops.{enough, round, payer-nobody, payer-here, round-first, round-lt, round-next}
-use Rattle.payers.proofs.first_local.Statement.{statement}
-use Rattle.payers.proofs.first_local.Tie as tie
+use Rattle.turns.specs.Round.{enough, round, payer-nobody, payer-here, round-first, round-lt, round-next}
+use Rattle.turns.proofs.first_local.Statement.{statement}
+use Rattle.turns.proofs.first_local.Tie as tie
 
 abbrev Inv-loop : tie.InvT-loop
 Inv-loop locals class from name n len first end j₀ d₀ j d =

@@ -1,11 +1,11 @@
--- `tallies::entries_by_class` meets its contract. The loop's invariant: the sums by class over the entries passed. Assumes nothing.
+-- `by_class::entries_by_class` meets its contract. The loop's invariant: the sums by class over the entries passed. Assumes nothing.
 use mathlib.Core.Path.{_≡_}
 use Prim.Native.Nat.{_-_, _^_, _≤_}
 use native.Mathlib.Omega.{arith}
 use borrow.Author.Needs.{needs}
-use Rattle.tallies.specs.Sums.{freeAt, allocAt, treeAt, Summed, summed-none, summed-more}
-use Rattle.tallies.proofs.entries_by_class.Statement.{statement}
-use Rattle.tallies.proofs.entries_by_class.Tie as tie
+use Rattle.by_class.specs.Sums.{freeAt, allocAt, treeAt, Summed, summed-none, summed-more}
+use Rattle.by_class.proofs.entries_by_class.Statement.{statement}
+use Rattle.by_class.proofs.entries_by_class.Tie as tie
 
 abbrev Inv-loop : tie.InvT-loop
 Inv-loop trees n free₀ alloc₀ count₀ t₀ free alloc count t = (t ≤ n) × (Summed (freeAt trees) (2 ^ 28) free t × (Summed (allocAt 11 trees) 2048 alloc t × Summed (treeAt trees) 1 count t))

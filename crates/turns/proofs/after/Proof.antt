@@ -1,8 +1,8 @@
--- `payers::after` meets its contract. Assumes nothing.
+-- `turns::after` meets its contract. Assumes nothing.
 use borrow.Author.Tests.{eq-eqb, ne-eqb}
 use borrow.Author.Needs.{needs}
-use Rattle.payers.proofs.after.Statement.{statement}
-use Rattle.payers.proofs.after.Tie as tie
+use Rattle.turns.proofs.after.Statement.{statement}
+use Rattle.turns.proofs.after.Tie as tie
 
 add-if1 : tie.Need-add-if1
 add-if1 c = search needs

@@ -30,10 +30,6 @@ treeAt ts k t = pick (eqb (entryAt ts t .class) k) 1 0
 unfoldable pub heldOn : ℕ → List ℕ → List ℕ → ℕ → ℕ → ℕ
 heldOn z ts ls k j = pick (localAt ls j .present) (pick (eqb (entryAt ts (treeOn z (localAt ls j)) .class) k) (localAt ls j .free) 0) 0
 
--- the free of the n locals from a place on
-unfoldable pub freeFrom : List ℕ → ℕ → ℕ → ℕ
-freeFrom ls first n = sum (λ i. localAt ls (first + i) .free) 0 n
-
 -- eight numbers, one for each class: the sums of f over the first n, each at most m times n
 pub record Summed (f : ℕ → ℕ → ℕ) (m : ℕ) (a : List ℕ) (n : ℕ) : Type 0 where
   pub len : length a ≡ 8

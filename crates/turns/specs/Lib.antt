@@ -1,0 +1,2 @@
+-- laws of the loop over the locals of a class
+pub mod Round
