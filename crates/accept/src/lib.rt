@@ -34,7 +34,7 @@ pub fn accepts(h: Header, table: &[u32; 64]) -> bool
     if places_fit(h) {
         if h.default < 8 {
             if words::has_place(&places, h.default) {
-                return tables::rows_accepted(h, &places, table);
+                return accept_rows::rows_accepted(h, &places, table);
             }
             return false;
         }

@@ -48,7 +48,7 @@ pub fn rate(h: Header, table: &[u32; 64], q: Request, walk: Walk, e: Tree) -> us
     if e.reserved {
         return 0;
     }
-    if e.free < bits::size(q.order) {
+    if e.free < sizes::size(q.order) {
         return 0;
     }
     ratings::rated_of(table[q.class * 8 + e.class], walk, e.free)

@@ -1,4 +1,4 @@
-// The bitmap's words, counted and passed over, and the sizes of blocks: 32 words a tree, bit i of word w is frame 64 w + i, 1 means held.
+// The bitmap's words, counted and passed over: 32 words a tree, bit i of word w is frame 64 w + i, 1 means held.
 ghost use mathlib.Core.Path.{_≡_};
 ghost use Prim.Native.Nat.{_+_, _-_, _*_, _^_, _≤_};
 ghost use lib.ListN.{length};
@@ -6,14 +6,6 @@ ghost use lib.Dec.{eqb};
 ghost use Rattle.rules.specs.Lower.{held, clear};
 ghost use Rattle.lower_laws.specs.Open.{openFrom};
 ghost use Rattle.lower_laws.specs.LowestClear.{lowestClear};
-
-// 2^order.
-pub fn size(order: usize) -> usize
-    requires { ⌜ order ≤ 18 ⌝ }
-    ensures { λ r. ⌜ r ≡ 2 ^ order ⌝ }
-{
-    1usize << order
-}
 
 // How many frames of n whole words are held.
 fn held_words(words: &[u64], at: usize, n: usize) -> usize
@@ -87,12 +79,4 @@ pub fn past_held(words: &[u64], frame: usize) -> bool
         return false;
     }
     true
-}
-
-// The frames of a block, 2^order.
-pub fn frames(order: usize) -> u32
-    requires { ⌜ order ≤ 11 ⌝ }
-    ensures { λ r. ⌜ r ≡ 2 ^ order ⌝ }
-{
-    size(order) as u32
 }

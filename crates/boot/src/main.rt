@@ -79,7 +79,7 @@ fn take(
             };
         };
         first[order] = frame;
-        frames += bits::size(order);
+        frames += sizes::size(order);
     }
     Held {
         whole: true,

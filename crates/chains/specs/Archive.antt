@@ -31,7 +31,7 @@ use Rattle.sequence.specs.Demand.{Promised, Chain}
 use Rattle.sequence.specs.Sequence.{sequence, never-stuck}
 use Rattle.llfree_c.specs.declared.Figures.{Figures}
 use Rattle.llfree_c.specs.Figures.{figuresOf}
-use Rattle.chains.specs.Chains.{Call, gets, puts, drains, counts, starts, Answered, Calls, outcomeFrom, grantedFrom, emptyRows, totalsFrom, rowsFrom, stepOf, steps, ArchiveSequence}
+use Rattle.chains.specs.Chains.{Call, gets, puts, drains, reports, starts, Answered, Calls, outcomeFrom, grantedFrom, emptyRows, totalsFrom, rowsFrom, stepOf, steps, ArchiveSequence}
 
 -- ---- what a call tells: a number up to 11, and of a get that is refused no frame and no class
 abbrev Few : Told → Type 0
@@ -118,7 +118,7 @@ module _ (h : Header) (pairs : List ℕ) where
       (subst Plain (sym P) (get-plain (config h pairs) (s .trees) (s .locals) (s .bits) q name)) ∙ P
   promised (puts f q r) s e P = told-back r e _ (put-few (config h pairs) (s .trees) (s .locals) (s .bits) q f) P
   promised (drains r) s e P = told-back r e _ (drain-few (config h pairs) (s .trees) (s .locals) (s .bits)) P
-  promised (counts n r) s e (P, d) = (
+  promised (reports n r) s e (P, d) = (
     subst (λ (x : Figures). toldTotals (totalsFrom x) (rowsFrom n x) ≡ statistics (config h pairs) (s .trees) (s .locals) (s .bits) (emptyRows n)) (sym P)
         (figures-by (config h pairs) (s .trees) (s .locals) (s .bits) n _ _ refl refl),
     d,

@@ -31,7 +31,7 @@ pub data Call : Type 0 where
   gets : Name → Request → Answer → Call
   puts : ℕ → Request → ℕ → Call
   drains : ℕ → Call
-  counts : ℕ → Figures → Call
+  reports : ℕ → Figures → Call
   starts : Header → List ℕ → Bool → ℕ → Call
 
 -- from the words s to the words e the call satisfies the promise of the archive's function
@@ -39,7 +39,7 @@ abbrev pub Answered : Header → List ℕ → Call → Words → Words → Type 
 Answered h pairs (gets name q r) s e = GetAnswer h pairs name q s r e
 Answered h pairs (puts f q r) s e = PutNumber h pairs f q s r e
 Answered h pairs (drains r) s e = DrainNumber h pairs s r e
-Answered h pairs (counts n r) s e = FiguresAnswer h pairs s n r × (e ≡ s)
+Answered h pairs (reports n r) s e = FiguresAnswer h pairs s n r × (e ≡ s)
 Answered h pairs (starts h' pairs' free r) s e = StartNumber h' pairs' free s r e
 
 -- every call of the chain
@@ -76,7 +76,7 @@ abbrev pub stepOf : Call → Step
 stepOf (gets name q r) = Demand.gets name q (record { granted = grantedFrom (r .number) (r .frame) (r .class); looks = r .looks; tries = r .tries })
 stepOf (puts f q r) = Demand.puts f q (outcomeFrom r)
 stepOf (drains r) = Demand.drains (outcomeFrom r)
-stepOf (counts n r) = Demand.counts (emptyRows n) (totalsFrom r) (rowsFrom n r)
+stepOf (reports n r) = Demand.counts (emptyRows n) (totalsFrom r) (rowsFrom n r)
 stepOf (starts h pairs free r) = Demand.starts h pairs free (outcomeFrom r)
 
 -- all of them

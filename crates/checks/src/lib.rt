@@ -46,7 +46,7 @@ pub fn check(h: Header, table: &[u32; 64], q: Request, frame: usize) -> Outcome
     if 11 < q.order {
         return Outcome::Refused(Refusal::Order);
     }
-    let n = bits::size(q.order);
+    let n = sizes::size(q.order);
     if h.frames < n {
         return Outcome::Refused(Refusal::Bounds);
     }

@@ -35,7 +35,7 @@ fn demote_to(
     let local = q.local;
     match local {
         Given::Local(i) => {
-            let old = swaps::swap(locals, words::slot(h, q.class, i), l);
+            let old = local_swaps::swap(locals, words::slot(h, q.class, i), l);
             if !steps::unreserve_local(h, table, trees, q.class, old) {
                 return ends::stuck(looks, tries);
             }
@@ -71,9 +71,9 @@ fn move_from(
     let Payer::Local { class: _, slot } = payer else {
         return ends::missed(looks, tries);
     };
-    match pays::take(locals, slot, name, bits::frames(q.order) as usize) {
+    match local_frames::take(locals, slot, name, sizes::frames(q.order) as usize) {
         Held::Row(_) => {
-            let l = swaps::clear(locals, slot);
+            let l = local_swaps::clear(locals, slot);
             demote_to(h, table, trees, locals, bits, q, name, l, looks, tries)
         }
         Held::Few { row: _, free: _ } => ends::missed(looks, tries),
@@ -106,7 +106,7 @@ pub fn demote_local(
         q.class,
         steps::index_of(local),
         name,
-        bits::frames(q.order) as usize,
+        sizes::frames(q.order) as usize,
     );
     move_from(h, table, trees, locals, bits, q, name, payer, looks, tries)
 }

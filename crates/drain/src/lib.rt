@@ -16,7 +16,7 @@ pub fn drain(
         r (words (now (trees .exit)) (now (locals .exit)) (now (bits .exit))) ⌝ }
 {
     if state::stands(h, table, trees, locals, bits) {
-        drains::drain_body(h, table, trees, locals)
+        drain_body::drain_body(h, table, trees, locals)
     } else {
         Outcome::Refused(Refusal::Broken)
     }

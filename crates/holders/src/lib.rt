@@ -17,10 +17,10 @@ pub fn apart(locals: &[u64]) -> bool
         let l = local::load(locals, j);
         if l.present {
             let tree = l.row / 32;
-            if !blocks::is_free(&marks, 0, tree) {
+            if !bit_blocks::is_free(&marks, 0, tree) {
                 return false;
             }
-            fills::hold(&mut marks, 0, tree);
+            bit_fills::hold(&mut marks, 0, tree);
         }
         j += 1;
     }

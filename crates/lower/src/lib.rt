@@ -24,13 +24,13 @@ fn find_block(words: &[u64], row: usize, order: usize, name: Name) -> Found
     match name {
         Name::Any => {
             if has_tree(words, row / 32) {
-                return seeks::find(words, row, order);
+                return lower_seeks::find(words, row, order);
             }
             Found::Nothing
         }
         Name::Frame(f) => {
             if has_tree(words, f / 2048) {
-                if blocks::is_free(words, order, f >> order) {
+                if bit_blocks::is_free(words, order, f >> order) {
                     return Found::At(f >> order);
                 }
                 return Found::Nothing;
@@ -47,8 +47,8 @@ pub fn lower_get(words: &mut [u64], row: usize, order: usize, name: Name) -> Fou
 {
     match find_block(words, row, order, name) {
         Found::At(j) => {
-            let f = j * bits::size(order);
-            fills::hold(words, order, j);
+            let f = j * sizes::size(order);
+            bit_fills::hold(words, order, j);
             Found::At(f)
         }
         Found::Nothing => Found::Nothing,
@@ -62,8 +62,8 @@ pub fn lower_put(words: &mut [u64], order: usize, frame: usize) -> bool
 {
     if has_tree(words, frame / 2048) {
         let block = frame >> order;
-        if blocks::is_held(words, order, block) {
-            fills::release(words, order, block);
+        if bit_blocks::is_held(words, order, block) {
+            bit_fills::release(words, order, block);
             return true;
         }
         return false;

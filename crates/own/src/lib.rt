@@ -35,11 +35,11 @@ pub fn at_row(
 {
     match lower::lower_get(bits, row, q.order, name) {
         Found::At(f) => {
-            swaps::set_start(locals, j, f / 64);
+            local_swaps::set_start(locals, j, f / 64);
             ends::done(f, q.class, looks, tries + 1)
         }
         Found::Nothing => {
-            trees::put(h, table, trees, row / 32, bits::frames(q.order) as usize);
+            trees::put(h, table, trees, row / 32, sizes::frames(q.order) as usize);
             ends::missed_at(row / 32, looks, tries + 1)
         }
     }
@@ -65,7 +65,7 @@ pub fn topped(
     }
     match trees::sync(trees, row / 32, n - free) {
         Synced::Free(x) => {
-            if pays::put(locals, j, row / 32, x as usize) {
+            if local_frames::put(locals, j, row / 32, x as usize) {
                 return true;
             }
             trees::put(h, table, trees, row / 32, x as usize);

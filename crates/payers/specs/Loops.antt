@@ -14,7 +14,7 @@ use Rattle.rules.specs.declared.Found.{Found}
 use Rattle.rules.specs.declared.Found.the-variants.{At, Nothing}
 use Rattle.rules.specs.declared.Payer.{Payer}
 use Rattle.rules.specs.declared.Payer.the-variants as Payer
-use Rattle.turns.specs.Round.{payerOf}
+use Rattle.first_local.specs.Round.{payerOf}
 
 -- the local of class t that pays for a request of class k, or nobody
 unfoldable pub payerAt : (Kind → Bool) → Config → List ℕ → ℕ → ℕ → Name → ℕ → ℕ → Payer

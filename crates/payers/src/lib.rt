@@ -62,7 +62,7 @@ fn payer_at(
 {
     if words::is_configured(h, k) {
         if may(demote, words::ask(h, table, class, k, n)) {
-            return turns::first_local(h, locals, k, from, name, n);
+            return first_local::first_local(h, locals, k, from, name, n);
         }
         return Payer::Nobody;
     }

@@ -20,7 +20,7 @@ pub fn put(
 {
     if state::stands(h, table, trees, locals, bits) {
         match checks::check(h, table, q, frame) {
-            Outcome::Done => puts::put_body(h, table, trees, locals, bits, q, frame),
+            Outcome::Done => put_body::put_body(h, table, trees, locals, bits, q, frame),
             Outcome::Refused(x) => Outcome::Refused(x),
         }
     } else {

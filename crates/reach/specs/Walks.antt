@@ -22,7 +22,7 @@ use Rattle.ways.specs.declared.Got.the-variants as Got
 use Rattle.ways.specs.declared.Walk.{Walk}
 use Rattle.ways.specs.declared.Walk.the-variants as Walk
 use Rattle.ways.specs.State.{State, st, size, missed, orElse, withLook}
-use Rattle.ways.specs.Walk.{place, best, ratedIn, isFull, rate, Candidate, rated, insert, admit, access, Sight, sight, visit, walk, tryList, stopped, searchBest}
+use Rattle.ways.specs.Walk.{place, atOnce, ratedIn, isFull, rate, Candidate, rated, insert, admit, access, Sight, sight, visit, walk, tryList, stopped, searchBest}
 use Rattle.ways.specs.Search.{near, roundedStart, searchFar, searchFrom, searchAndReserve, searchAndSteal}
 use Rattle.lower_laws.specs.Cases.{by-eq}
 use Rattle.word_laws.specs.Sizes.{Size}
@@ -158,7 +158,7 @@ module _ (c : Config) (sz : Size (c .order)) (q : Request) (A : Asks c q Any) (s
         at l k =
             visit-ind (After i) c q w j m (place (trees c) start i) xs (st ts ls bs l k)
             (λ e.
-            let T = place-takes i (λ z. (let y : _≡_ {A = ℕ} best 0 = sym e ∙ z in omega arith)) in
+            let T = place-takes i (λ z. (let y : _≡_ {A = ℕ} atOnce 0 = sym e ∙ z in omega arith)) in
             tried-ind (Ends (ReachedBy c ts ls q) ⊥ ts ls bs) (After i) xs (access c q w j (place (trees c) start i) (st ts ls bs (l + 1) k))
             (access-gives c sz q A single ts ls bs K (ReachedBy c ts ls q) ⊥ (takes-reach (place (trees c) start i) T) (place (trees c) start i) T w j (l + 1) k) gave)
             (λ z. (refl, (B .1 .0, λ e. next-passed i (B .1 .1 e) z)))

@@ -46,8 +46,8 @@ pub fn reserved(
 {
     match lower::lower_get(bits, t * 32, q.order, Name::Any) {
         Found::At(f) => {
-            let free = words::less(old as usize, bits::frames(q.order) as usize);
-            let l = swaps::swap(locals, j, reservation(t, free));
+            let free = words::less(old as usize, sizes::frames(q.order) as usize);
+            let l = local_swaps::swap(locals, j, reservation(t, free));
             if steps::unreserve_local(h, table, trees, q.class, l) {
                 return ends::done(f, q.class, looks, tries + 1);
             }

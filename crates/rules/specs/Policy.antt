@@ -25,7 +25,7 @@ cutOf w = w / 4 % 2 ^ 14
 unfoldable pub lowOf : ℕ → ℕ
 lowOf w = w / 2 ^ 16 % 2 ^ 8
 
--- the rating where free is at least the cut
+-- the rating where free is at least the cut: a pair is a word of 32 bits, so it is at most 255
 unfoldable pub highOf : ℕ → ℕ
 highOf w = w / 2 ^ 24
 

@@ -28,7 +28,7 @@ pub data Step : Type 0 where
   gets : Name → Request → Reply → Step
   puts : ℕ → Request → Outcome → Step
   drains : Outcome → Step
-  counts : List Tally → Totals → List Tally → Step
+  reports : List Tally → Totals → List Tally → Step
   starts : Header → List ℕ → Bool → Outcome → Step
 
 -- from the words s to the words e the step satisfies the promise of the function that was called
@@ -36,7 +36,7 @@ abbrev pub Promised : Header → List ℕ → Step → Words → Words → Type 
 Promised h pairs (gets name q r) s e = GetPromise h pairs name q s r e
 Promised h pairs (puts f q r) s e = PutPromise h pairs f q s r e
 Promised h pairs (drains r) s e = DrainPromise h pairs s r e
-Promised h pairs (counts rows r filled) s e = StatisticsPromise h pairs s rows r filled × (e ≡ s)
+Promised h pairs (reports rows r filled) s e = StatisticsPromise h pairs s rows r filled × (e ≡ s)
 Promised h pairs (starts h' pairs' allFree r) s e = StartPromise h' pairs' allFree s r e
 
 -- every step of the chain
@@ -55,7 +55,7 @@ unfoldable pub number : Step → ℕ
 number (gets name q r) = numberGot (r .granted)
 number (puts f q r) = outcomeOf r
 number (drains r) = outcomeOf r
-number (counts rows r filled) = outcomeOf (r .outcome)
+number (reports rows r filled) = outcomeOf (r .outcome)
 number (starts h pairs allFree r) = outcomeOf r
 
 -- no start in the chain was accepted
@@ -64,7 +64,7 @@ NoRestart [] = Unit {0}
 NoRestart (gets name q r ∷ xs) = NoRestart xs
 NoRestart (puts f q r ∷ xs) = NoRestart xs
 NoRestart (drains r ∷ xs) = NoRestart xs
-NoRestart (counts rows r filled ∷ xs) = NoRestart xs
+NoRestart (reports rows r filled ∷ xs) = NoRestart xs
 NoRestart (starts h pairs allFree r ∷ xs) = (outcomeOf r ≡ 0 → ⊥) × NoRestart xs
 
 -- ---- the ledger, from the calls and their answers alone
@@ -89,7 +89,7 @@ handedOut z t [] = 0
 handedOut z t (gets name q r ∷ xs) = handed z t (q .order) (r .granted) + handedOut z t xs
 handedOut z t (puts f q r ∷ xs) = handedOut z t xs
 handedOut z t (drains r ∷ xs) = handedOut z t xs
-handedOut z t (counts rows r filled ∷ xs) = handedOut z t xs
+handedOut z t (reports rows r filled ∷ xs) = handedOut z t xs
 handedOut z t (starts h pairs allFree r ∷ xs) = handedOut z t xs
 
 -- frames of tree t given back in all
@@ -98,7 +98,7 @@ givenBack z t [] = 0
 givenBack z t (gets name q r ∷ xs) = givenBack z t xs
 givenBack z t (puts f q r ∷ xs) = gaveBack z t (q .order) f r + givenBack z t xs
 givenBack z t (drains r ∷ xs) = givenBack z t xs
-givenBack z t (counts rows r filled ∷ xs) = givenBack z t xs
+givenBack z t (reports rows r filled ∷ xs) = givenBack z t xs
 givenBack z t (starts h pairs allFree r ∷ xs) = givenBack z t xs
 
 -- frame x lies in the block of order o at frame f
@@ -135,7 +135,7 @@ NoneTwice held [] = Unit {0}
 NoneTwice held (gets name q r ∷ xs) = NotYetHeld held (q .order) (r .granted) × NoneTwice (heldAfterGet held (q .order) (r .granted)) xs
 NoneTwice held (puts f q r ∷ xs) = AllHeld held (q .order) f r × NoneTwice (heldAfterPut held (q .order) f r) xs
 NoneTwice held (drains r ∷ xs) = NoneTwice held xs
-NoneTwice held (counts rows r filled ∷ xs) = NoneTwice held xs
+NoneTwice held (reports rows r filled ∷ xs) = NoneTwice held xs
 NoneTwice held (starts h pairs allFree r ∷ xs) = NoneTwice held xs
 
 -- no call answers Broken
@@ -192,7 +192,7 @@ FromStanding = (h : Header) (pairs : List ℕ) (s e : Words) (xs : List Step)
 
 -- the tally rows that statistics are lent are as they were; no other call is lent rows
 abbrev pub RowsLeft : Step → Type 0
-RowsLeft (counts rows r filled) = filled ≡ rows
+RowsLeft (reports rows r filled) = filled ≡ rows
 RowsLeft (gets name q r) = Unit {0}
 RowsLeft (puts f q r) = Unit {0}
 RowsLeft (drains r) = Unit {0}

@@ -27,7 +27,7 @@ use Rattle.ways.specs.Promises.{Words}
 use Rattle.step_laws.specs.Steps.{ifte-ind}
 use Rattle.step_laws.specs.Answers.{unless-ind, standing-ind}
 use Rattle.complete.specs.Complete.{same-words}
-use Rattle.sequence.specs.Demand.{Step, gets, puts, drains, counts, starts, Promised, number, numberGot, RowsLeft}
+use Rattle.sequence.specs.Demand.{Step, gets, puts, drains, reports, starts, Promised, number, numberGot, RowsLeft}
 
 -- what a call that is not Done, Memory or Stuck tells has the words t, l and b
 abbrev Left : List ℕ → List ℕ → List ℕ → Told → Type 0
@@ -101,7 +101,7 @@ step-left h pairs (gets name q r) s e P =
 step-left h pairs (puts f q r) s e P =
     told-left r s e (put (config h pairs) q f (s .trees) (s .locals) (s .bits)) P (put-left (config h pairs) (s .trees) (s .locals) (s .bits) q f)
 step-left h pairs (drains r) s e P = told-left r s e (drain (config h pairs) (s .trees) (s .locals) (s .bits)) P (drain-left (config h pairs) (s .trees) (s .locals) (s .bits))
-step-left h pairs (counts rows r filled) s e P = λ x y z. P .1
+step-left h pairs (reports rows r filled) s e P = λ x y z. P .1
 step-left h pairs (starts d table allFree r) s e P =
     told-left r s e (start (config d table) allFree (s .trees) (s .locals) (s .bits)) P (start-left (config d table) (s .trees) (s .locals) (s .bits) allFree)
 
@@ -118,6 +118,6 @@ unfolding number
 rows-left h pairs (gets name q r) s e P x = tt
 rows-left h pairs (puts f q r) s e P x = tt
 rows-left h pairs (drains r) s e P x = tt
-rows-left h pairs (counts rows r filled) s e P x =
+rows-left h pairs (reports rows r filled) s e P x =
     ap (λ (y : Report). y .rows) (P .0) ∙ rows-as-lent (config h pairs) (s .trees) (s .locals) (s .bits) rows (λ z. x (ap (λ (y : Report). y .number) (P .0) ∙ z))
 rows-left h pairs (starts d table allFree r) s e P x = tt

@@ -17,7 +17,7 @@ use Rattle.lower_laws.specs.Clear.{clear-held}
 use Rattle.word_laws.specs.Sizes.{size-eleven}
 use Rattle.hand.specs.Hand.{Kept}
 use Rattle.standing_laws.specs.Standing.{kept-test, test-kept}
-use Rattle.sequence.specs.Demand.{Step, gets, puts, drains, counts, starts, Chain, number, NoRestart, handedOut, givenBack, heldAtStart, heldAfterGet, heldAfterPut, NoneTwice, NoneBroken, NoneStuck, Demand3, Sequence, NeverStuck, FromStanding, OthersUnchanged}
+use Rattle.sequence.specs.Demand.{Step, gets, puts, drains, reports, starts, Chain, number, NoRestart, handedOut, givenBack, heldAtStart, heldAfterGet, heldAfterPut, NoneTwice, NoneBroken, NoneStuck, Demand3, Sequence, NeverStuck, FromStanding, OthersUnchanged}
 use Rattle.sequence.specs.Blocks.{reserved-is}
 use Rattle.sequence.specs.Refused.{step-left, rows-left}
 use Rattle.sequence.specs.Steps.{Agreed, get-step, put-step, drain-step, count-step, refused-start, start-step}
@@ -65,7 +65,7 @@ module _ (h : Header) (pairs : List ℕ) where
         unbroken = (λ z. omega (arith, z, G .done), R .unbroken);
         unstuck = (λ z. omega (arith, z, G .done), R .unstuck);
       }
-  all-steps held s (counts rows r filled ∷ xs) e A n (m, (P, C)) =
+  all-steps held s (reports rows r filled ∷ xs) e A n (m, (P, C)) =
       let G = count-step (config h pairs) size-eleven held s A rows r filled (P .0) in
       let R = all-steps held m xs e (subst (Agreed (config h pairs) held) (sym (P .1)) A) n C in
       record {

@@ -28,7 +28,7 @@ pub fn rounded_start(n: usize, start: usize) -> usize
     let least = 2 * near(n);
     let mut e: usize = 0;
     while e < 8 {
-        if least <= bits::size(e) {
+        if least <= sizes::size(e) {
             return (start >> e) << e;
         }
         e += 1;

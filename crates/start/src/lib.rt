@@ -18,7 +18,7 @@ pub fn start(
 {
     if accept::accepts(h, table) {
         if lengths::lengths_exact(h, table, trees, locals, bits) {
-            starts::start_body(h, trees, locals, bits, free);
+            start_body::start_body(h, trees, locals, bits, free);
             return Outcome::Done;
         }
         return Outcome::Refused(Refusal::Config);

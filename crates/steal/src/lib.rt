@@ -31,7 +31,7 @@ pub fn steal_global(
         ≡ stealGlobal (config h (now (table .entry))) q name t (st (now (trees .entry)) (now (locals .entry)) (now (bits .entry)) looks tries))
         × ((r .looks ≤ looks) × (r .tries ≤ tries + 1)) ⌝ }
 {
-    match draws::steal(h, table, trees, t, q.class, bits::frames(q.order) as usize) {
+    match tree_takes::steal(h, table, trees, t, q.class, sizes::frames(q.order) as usize) {
         Took::No => ends::missed(looks, tries),
         Took::Yes(e) => {
             let row = t * 32;
@@ -58,7 +58,7 @@ fn reserve_or_steal(
         ≡ reserveOrSteal (config h (now (table .entry))) q j t (st (now (trees .entry)) (now (locals .entry)) (now (bits .entry)) looks tries))
         × ((r .looks ≤ looks) × (r .tries ≤ tries + 1)) ⌝ }
 {
-    match draws::reserve_or_steal(h, table, trees, t, q.class, bits::frames(q.order) as usize) {
+    match tree_takes::reserve_or_steal(h, table, trees, t, q.class, sizes::frames(q.order) as usize) {
         Taken::No => ends::missed(looks, tries),
         Taken::Part(e) => {
             let name = Name::Any;

@@ -15,7 +15,7 @@ use Rattle.ways.specs.declared.Got.{Got}
 use Rattle.ways.specs.declared.Got.the-variants as Got
 use Rattle.ways.specs.declared.Walk.{Walk}
 use Rattle.ways.specs.State.{State, Way, missed, withLook}
-use Rattle.ways.specs.Walk.{place, best, isFull, rate, Candidate, rated, insert, admit, access, Sight, sight, tried, offered, visit, onSight, walkSteps, tryList}
+use Rattle.ways.specs.Walk.{place, atOnce, isFull, rate, Candidate, rated, insert, admit, access, Sight, sight, tried, offered, visit, onSight, walkSteps, tryList}
 use Rattle.step_laws.specs.Steps.{ifte-ind, else-ind}
 
 -- a walk stays in the trees
@@ -54,13 +54,13 @@ tried-ind R Q xs (out g s) h f = f g s h
 
 -- a tree looked at: tried at once, passed over, or listed
 pub visit-ind : (Q : Out Got Sight → Type 0) (c : Config) (q : Request) (w : Walk) (j m t : ℕ) (xs : List Candidate) (s : State)
-    → (rate c q w (entryAt (s .trees) t) ≡ best → Q (tried xs (access c q w j t (withLook s))))
+    → (rate c q w (entryAt (s .trees) t) ≡ atOnce → Q (tried xs (access c q w j t (withLook s))))
     → (rate c q w (entryAt (s .trees) t) ≡ 0 → Q (out Got.Missed (sight xs (withLook s))))
     → ((rate c q w (entryAt (s .trees) t) ≡ 0 → ⊥) → Q (out Got.Missed (sight (admit m (2 * rate c q w (entryAt (s .trees) t) + bitOf (isFull (c .order) (entryAt (s .trees) t))) t xs) (withLook s))))
     → Q (visit c q w j m t xs s)
 unfolding visit offered
 visit-ind Q c q w j m t xs s once passed listed =
-    ifte-ind Q (eqb (rate c q w (entryAt (s .trees) t)) best) _ _ (λ e. once (eqb-true _ _ e)) (λ _.
+    ifte-ind Q (eqb (rate c q w (entryAt (s .trees) t)) atOnce) _ _ (λ e. once (eqb-true _ _ e)) (λ _.
     ifte-ind Q (eqb (rate c q w (entryAt (s .trees) t)) 0) _ _ (λ e. passed (eqb-true _ _ e)) (λ e. listed (eqb-false _ _ e)))
 
 -- on where the tree gave nothing

@@ -17,7 +17,7 @@ use Rattle.ways.specs.declared.Got.the-variants as Got
 use Rattle.ways.specs.declared.Walk.{Walk}
 use Rattle.ways.specs.declared.Walk.the-variants as Walk
 use Rattle.ways.specs.State.{State, Way, size, done, missed, stuck, withTrees, withLocals, withTry, withLook, askLower, putEntry}
-use Rattle.ways.specs.Walk.{Candidate, Sight, best, place, rate, stealGlobal, reserved, reserveOrSteal, access, tried, offered, visit, onSight, walkSteps}
+use Rattle.ways.specs.Walk.{Candidate, Sight, atOnce, place, rate, stealGlobal, reserved, reserveOrSteal, access, tried, offered, visit, onSight, walkSteps}
 use Rattle.step_laws.specs.Steps.{ifte-ind}
 use Rattle.step_laws.specs.Ways.{took-any, taken-any, found-any, swap-any, unreserve-any, unreserveLocal-any}
 
@@ -73,7 +73,7 @@ tried-looks xs (out g s) n h = h
 pub visit-looks : (c : Config) (q : Request) (w : Walk) (j m t : ℕ) (xs : List Candidate) (s : State) → sightLooks (visit c q w j m t xs s) ≡ s .looks + 1
 unfolding visit offered withLook
 visit-looks c q w j m t xs s =
-    ifte-ind (λ (v : Out Got Sight). sightLooks v ≡ s .looks + 1) (eqb (rate c q w (entryAt (s .trees) t)) best) _ _
+    ifte-ind (λ (v : Out Got Sight). sightLooks v ≡ s .looks + 1) (eqb (rate c q w (entryAt (s .trees) t)) atOnce) _ _
     (λ _. tried-looks xs (access c q w j t (withLook s)) (s .looks + 1) (access-looks c q (s .looks + 1) w j t (withLook s) refl))
     (λ _. ifte-ind (λ (v : Out Got Sight). sightLooks v ≡ s .looks + 1) (eqb (rate c q w (entryAt (s .trees) t)) 0) _ _ (λ _. refl) (λ _. refl))
 

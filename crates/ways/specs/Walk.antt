@@ -30,8 +30,8 @@ place n start i = pick (eqb (i % 2) 0) ((start + i / 2) % n) ((start + n - (i + 
 -- ---- ratings: Invalid 0, Steal 1, Demote 2, Match r is 3 + r
 
 -- Match 255
-abbrev pub best : ℕ
-best = 258
+abbrev pub atOnce : ℕ
+atOnce = 258
 
 -- near walk: any Match, and Demote of a full tree, at their own ratings; nothing else.
 -- Far walk: any Match, and Demote of a full tree, as 255. Stealing search: plain ratings
@@ -41,8 +41,8 @@ ratedIn Walk.Near isFull Steal = 0
 ratedIn Walk.Near isFull Demote = pick isFull 2 0
 ratedIn Walk.Near isFull (Match r) = 3 + r
 ratedIn Walk.Far isFull Steal = 1
-ratedIn Walk.Far isFull Demote = pick isFull best 2
-ratedIn Walk.Far isFull (Match r) = best
+ratedIn Walk.Far isFull Demote = pick isFull atOnce 2
+ratedIn Walk.Far isFull (Match r) = atOnce
 ratedIn Walk.Stealing isFull Steal = 1
 ratedIn Walk.Stealing isFull Demote = 2
 ratedIn Walk.Stealing isFull (Match r) = 3 + r
@@ -123,7 +123,7 @@ tried xs (out g s) = out g (sight xs s)
 -- Match 255 is tried at once; Invalid enters no list; others go to the list, fully free above not
 unfoldable pub offered : Config → Request → Walk → ℕ → ℕ → ℕ → ℕ → Bool → List Candidate → State → Out Got Sight
 offered c q w j m t r isFull xs s =
-    ifte (eqb r best) (λ _. tried xs (access c q w j t s)) (λ _.
+    ifte (eqb r atOnce) (λ _. tried xs (access c q w j t s)) (λ _.
     ifte (eqb r 0) (λ _. out Got.Missed (sight xs s)) (λ _.
     out Got.Missed (sight (admit m (2 * r + bitOf isFull) t xs) s)))
 

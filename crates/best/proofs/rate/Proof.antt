@@ -8,7 +8,7 @@ use Rattle.best.proofs.rate.Tie as tie
 use Rattle.best.proofs.rate.Reads as reads
 use Rattle.best.proofs.rate.Lts as lts
 use Rattle.ratings.proofs.rated_of.Reads as rated-of-reads
-use Rattle.bits.proofs.size.Reads as size-reads
+use Rattle.sizes.proofs.size.Reads as size-reads
 
 returns : tie.Need-returns
 unfolding rate policy pairOf

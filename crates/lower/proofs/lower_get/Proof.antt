@@ -9,8 +9,8 @@ use Rattle.lower.proofs.lower_get.Statement.{statement}
 use Rattle.lower.proofs.lower_get.Tie as tie
 use Rattle.lower.proofs.lower_get.Reads as reads
 use Rattle.lower.proofs.lower_get.Lts as lts
-use Rattle.fills.proofs.hold.Reads as hold-reads
-use Rattle.bits.proofs.size.Reads as size-reads
+use Rattle.bit_fills.proofs.hold.Reads as hold-reads
+use Rattle.sizes.proofs.size.Reads as size-reads
 use Rattle.lower.proofs.find_block.Reads as find-block-reads
 
 find-block-requires : tie.Need-find-block-requires

@@ -14,10 +14,10 @@ use Rattle.take.proofs.+get_local+top_up.Lts-get_local as get-local-lts
 use Rattle.take.proofs.top_up.Reads as top-up
 use Rattle.take.proofs.top_up.Kinds as top-up-kinds
 use Rattle.take.proofs.+get_local+top_up.Lts-top_up as top-up-lts
-use Rattle.bits.proofs.frames.Reads as frames-reads
+use Rattle.sizes.proofs.frames.Reads as frames-reads
 use Rattle.ends.proofs.missed.Reads as missed-reads
 use Rattle.ends.proofs.missed_at.Reads as missed-at-reads
-use Rattle.pays.proofs.take.Reads as take-reads
+use Rattle.local_frames.proofs.take.Reads as take-reads
 use Rattle.own.proofs.at_row.Reads as at-row-reads
 use Rattle.own.proofs.topped.Reads as topped-reads
 use Rattle.take.proofs.+get_local+top_up.{statement}

@@ -1,0 +1,67 @@
+// What a put does once the state test and the argument tests have passed.
+use rules::Given;
+use rules::Header;
+use rules::Request;
+use ways::Outcome;
+use ways::Refusal;
+ghost use mathlib.Core.Path.{_≡_};
+ghost use mathlib.Core.List.{List};
+ghost use Prim.Native.Nat.{ℕ, _^_, _<_};
+ghost use Rattle.rules.specs.Words.{config};
+ghost use Rattle.rules.specs.Lower.{lowerPut};
+ghost use Rattle.ways.specs.State.{indexOf};
+ghost use Rattle.ways.specs.Calls.{fresh, told, putTo, onGiven};
+ghost use Rattle.ways.specs.Fits.{Fits};
+
+// The frames of a put go to the given local if it holds their tree, else to the tree's entry.
+fn put_to(
+    h: Header,
+    table: &[u32; 64],
+    trees: &mut [u32],
+    locals: &mut [u64],
+    q: Request,
+    frame: usize,
+    local: Given,
+)
+    requires { ⌜ Fits h q × (indexOf local < 2 ^ 32) ⌝ }
+    ensures { λ _. ⌜ ((b : List ℕ) → fresh (now (trees .exit)) (now (locals .exit)) b
+        ≡ putTo (config h (now (table .entry))) q frame local (fresh (now (trees .entry)) (now (locals .entry)) b)) ⌝ }
+{
+    let t = frame / 2048;
+    let n = sizes::frames(q.order) as usize;
+    match local {
+        Given::Nothing => {
+            trees::put(h, table, trees, t, n);
+        }
+        Given::Local(i) => {
+            let j = words::slot(h, q.class, i);
+            if local_frames::put(locals, j, t, n) {
+                return;
+            }
+            trees::put(h, table, trees, t, n);
+        }
+    }
+}
+
+// A put whose arguments fit: the lower first, then the local or the entry.
+pub fn put_body(
+    h: Header,
+    table: &[u32; 64],
+    trees: &mut [u32],
+    locals: &mut [u64],
+    bits: &mut [u64],
+    q: Request,
+    frame: usize,
+) -> Outcome
+    requires { ⌜ Fits h q ⌝ }
+    ensures { λ r. ⌜ told r (now (trees .exit)) (now (locals .exit)) (now (bits .exit))
+        ≡ onGiven (lowerPut 11 (now (bits .entry)) (q .order) frame) (fresh (now (trees .entry)) (now (locals .entry)) (now (bits .entry)))
+        (putTo (config h (now (table .entry))) q frame (q .local)) ⌝ }
+{
+    if lower::lower_put(bits, q.order, frame) {
+        let local = q.local;
+        put_to(h, table, trees, locals, q, frame, local);
+        return Outcome::Done;
+    }
+    Outcome::Refused(Refusal::NotHeld)
+}

@@ -1,0 +1,15 @@
+-- `sizes::size` meets its contract. Assumes nothing.
+use Rattle.lower_laws.specs.Power.{one-shl}
+use native.Mathlib.Omega.{arith}
+use borrow.Author.Needs.{needs}
+use Rattle.sizes.proofs.size.Statement.{statement}
+use Rattle.sizes.proofs.size.Tie as tie
+
+shl-result : tie.Need-shl-result
+shl-result c = search needs
+
+returns : tie.Need-returns
+returns c = one-shl (c .args .order) (omega arith)
+
+pub size-spec : {M : Type 1} → statement M
+size-spec = tie.close (tie.spec shl-result returns)
