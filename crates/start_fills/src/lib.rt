@@ -46,7 +46,12 @@ pub fn fill_trees(trees: &mut [u32], f: usize, default: usize)
             whole + 1,
             start_words::tree_word_at(default, f, whole),
         );
-        fill_entries(trees, whole + 1, n, start_words::tree_word_at(default, 0, 0));
+        fill_entries(
+            trees,
+            whole + 1,
+            n,
+            start_words::tree_word_at(default, 0, 0),
+        );
     } else {
         fill_entries(trees, 0, n, full);
     }

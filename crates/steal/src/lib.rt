@@ -58,7 +58,14 @@ fn reserve_or_steal(
         ≡ reserveOrSteal (config h (now (table .entry))) q j t (st (now (trees .entry)) (now (locals .entry)) (now (bits .entry)) looks tries))
         × ((r .looks ≤ looks) × (r .tries ≤ tries + 1)) ⌝ }
 {
-    match tree_takes::reserve_or_steal(h, table, trees, t, q.class, sizes::frames(q.order) as usize) {
+    match tree_takes::reserve_or_steal(
+        h,
+        table,
+        trees,
+        t,
+        q.class,
+        sizes::frames(q.order) as usize,
+    ) {
         Taken::No => ends::missed(looks, tries),
         Taken::Part(e) => {
             let name = Name::Any;

@@ -216,6 +216,10 @@ further =
     ∷ record { of = tableT 2048 1 1; calls = local0 0 1 ∷ []; figures = all5 ++ tree 0 ∷ local 1 ∷ []; wants = 0 ∷ 0 ∷ 1 ∷ 1 ∷ 1 ∷ 0x200007ff ∷ 0 ∷ [] }
     -- a present own reservation that failed gives its tree as the start: 8
     ∷ record { of = tableT 18432 1 1; calls = holds 8 0x10000000 0 0x8000000000000100 (heldWords 32) ∷ local0 0 0 ∷ []; figures = all5; wants = 0 ∷ 14336 ∷ 0 ∷ 3 ∷ 1 ∷ [] }
+    -- with none the start is (n / locals) times the local: 2
+    ∷ record { of = tableT 6144 3 1; calls = asks 0 1 (Given.Local 2) Any ∷ []; figures = all5 ++ tree 2 ∷ []; wants = 0 ∷ 4096 ∷ 1 ∷ 1 ∷ 1 ∷ 0x200007ff ∷ [] }
+    -- a reserving search that steals answers the class that the entry has
+    ∷ record { of = tableT 4096 1 1; calls = stands (0x800 ∷ 0x800 ∷ []) (0 ∷ 0 ∷ []) (replicate 64 0) ∷ local0 0 1 ∷ []; figures = all5 ++ tree 0 ∷ local 1 ∷ []; wants = 0 ∷ 0 ∷ 0 ∷ 5 ∷ 1 ∷ 0x7ff ∷ 0 ∷ [] }
     ∷ []
 
 abbrev pub broken : List Example
