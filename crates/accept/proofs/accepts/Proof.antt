@@ -3,7 +3,7 @@ use mathlib.Core.Path.{_≡_, sym, _∙_}
 use mathlib.Core.Bool.{true, false}
 use Prim.Native.Nat.{ℕ, _<_, _≤_}
 use native.Mathlib.Omega.{arith}
-use lib.Dec.{ltb}
+use lib.Dec.{ltb, leb}
 use Rattle.policy_laws.specs.Rows.{table-rows}
 use Rattle.rules.specs.Policy.{accepted, framesAccepted, placesAccepted, defaultAccepted}
 use borrow.Author.Tests.{le-ltb, lt-ltb, le-leb, lt-leb}
@@ -17,6 +17,12 @@ no-frame f h = le-ltb 0 f (omega arith)
 a-frame : (f : ℕ) → 1 ≤ f → ltb 0 f ≡ true
 a-frame f h = lt-ltb 0 f h
 
+too-many : (f : ℕ) → 2097152 < f → leb f 2097152 ≡ false
+too-many f h = lt-leb f 2097152 h
+
+not-too-many : (f : ℕ) → f ≤ 2097152 → leb f 2097152 ≡ true
+not-too-many f h = le-leb f 2097152 h
+
 returns : tie.Need-returns
 unfolding accepted framesAccepted placesAccepted defaultAccepted
 returns c =
@@ -27,7 +33,7 @@ unfolding accepted framesAccepted placesAccepted defaultAccepted
 returns-2 c =
     rw (
       a-frame _ (c .before .before .if1 .left),
-      lt-leb _ _ (c .if2 .taken),
+      too-many _ (c .if2 .taken),
     )
 
 places-fit-requires : tie.Need-places-fit-requires
@@ -44,7 +50,7 @@ unfolding accepted framesAccepted placesAccepted defaultAccepted
 returns-3 c =
     rw (
       a-frame _ (c .before .before .before .before .before .before .before .before .before .before .before .before .if1 .left),
-      le-leb _ _ (c .before .before .before .before .before .before .before .before .before .before .if2 .left),
+      not-too-many _ (c .before .before .before .before .before .before .before .before .before .before .if2 .left),
       ← c .before .before .before .before .before .before .before .before .places-fit .ensures,
       c .before .before .before .before .before .before .before .if3 .taken,
       lt-ltb _ _ (c .before .before .before .before .before .if4 .taken),
@@ -58,7 +64,7 @@ unfolding accepted framesAccepted placesAccepted defaultAccepted
 returns-4 c =
     rw (
       a-frame _ (c .before .before .before .before .before .before .before .before .before .before .if1 .left),
-      le-leb _ _ (c .before .before .before .before .before .before .before .before .if2 .left),
+      not-too-many _ (c .before .before .before .before .before .before .before .before .if2 .left),
       ← c .before .before .before .before .before .before .places-fit .ensures,
       c .before .before .before .before .before .if3 .taken,
       lt-ltb _ _ (c .before .before .before .if4 .taken),
@@ -71,7 +77,7 @@ unfolding accepted framesAccepted placesAccepted defaultAccepted
 returns-5 c =
     rw (
       a-frame _ (c .before .before .before .before .before .before .before .if1 .left),
-      le-leb _ _ (c .before .before .before .before .before .if2 .left),
+      not-too-many _ (c .before .before .before .before .before .if2 .left),
       ← c .before .before .before .places-fit .ensures,
       c .before .before .if3 .taken,
       le-ltb _ _ (c .if4 .left),
@@ -82,7 +88,7 @@ unfolding accepted framesAccepted placesAccepted defaultAccepted
 returns-6 c =
     rw (
       a-frame _ (c .before .before .before .before .before .if1 .left),
-      le-leb _ _ (c .before .before .before .if2 .left),
+      not-too-many _ (c .before .before .before .if2 .left),
       ← c .before .places-fit .ensures,
       c .if3 .left,
     )
