@@ -86,6 +86,15 @@ fn give(
     }
 }
 
+// Nothing is held.
+fn nothing() -> Held {
+    Held {
+        whole: false,
+        frames: 0,
+        first: [0; 12],
+    }
+}
+
 // A pattern is held whole; or what was taken is given back, and the dim pattern that is built in is shown in its place.
 fn show(
     h: Header,
@@ -102,11 +111,7 @@ fn show(
     }
     give(h, table, trees, locals, bits, p, held);
     says::built_in(p);
-    Held {
-        whole: false,
-        frames: 0,
-        first: [0; 12],
-    }
+    nothing()
 }
 
 // The figures of the store.
@@ -121,23 +126,29 @@ fn figures<'a>(
     says::figures(h.frames, report);
 }
 
+// The patterns in the order in which they are shown.
+fn pattern(n: usize) -> Pattern {
+    match n {
+        0 => Pattern::Raster,
+        1 => Pattern::FirstOverlay,
+        _ => Pattern::SecondOverlay,
+    }
+}
+
 // The calls after an accepted start: the patterns are taken and given back, and after a drain all frames are free again.
 fn serve(h: Header, table: &[u32; 64], trees: &mut [u32], locals: &mut [u64], bits: &mut [u64]) {
-    let raster = show(h, table, trees, locals, bits, Pattern::Raster);
-    let first = show(h, table, trees, locals, bits, Pattern::FirstOverlay);
-    let second = show(h, table, trees, locals, bits, Pattern::SecondOverlay);
+    let mut held = [nothing(); 3];
+    let mut n = 0;
+    while n < 3 {
+        held[n] = show(h, table, trees, locals, bits, pattern(n));
+        n += 1;
+    }
     figures(h, table, trees, locals, bits);
-    give(h, table, trees, locals, bits, Pattern::Raster, raster);
-    give(h, table, trees, locals, bits, Pattern::FirstOverlay, first);
-    give(
-        h,
-        table,
-        trees,
-        locals,
-        bits,
-        Pattern::SecondOverlay,
-        second,
-    );
+    let mut n = 0;
+    while n < 3 {
+        give(h, table, trees, locals, bits, pattern(n), held[n]);
+        n += 1;
+    }
     let drained = llfree::drain(h, table, trees, locals, bits);
     says::outcome(b"drain", drained);
     figures(h, table, trees, locals, bits);
