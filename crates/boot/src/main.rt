@@ -8,7 +8,6 @@ use ways::Granted;
 use ways::Outcome;
 ghost use mathlib.Core.Path.{_≡_};
 ghost use mathlib.Core.Bool.{true};
-ghost use Prim.Native.Nat.{_<_};
 ghost use Rattle.rules.specs.Words.{config};
 ghost use Rattle.ways.specs.Calls.{outcomeOf};
 ghost use Rattle.patterns.specs.Board.{Ready};
@@ -20,34 +19,6 @@ struct Held {
     whole: bool,
     frames: usize,
     first: [usize; 12],
-}
-
-// A block taken, by its first frame.
-enum Block {
-    At(usize),
-    Refused,
-}
-
-// Takes a pattern's block of an order.
-fn take_block(
-    h: Header,
-    table: &[u32; 64],
-    trees: &mut [u32],
-    locals: &mut [u64],
-    bits: &mut [u64],
-    p: Pattern,
-    order: usize,
-) -> Block
-    requires { ⌜ order < 12 ⌝ }
-{
-    let q = patterns::request(p, order);
-    let reply = get::get(h, table, trees, locals, bits, Name::Any, q);
-    says::got(p, order, reply);
-    let granted = reply.granted;
-    match granted {
-        Granted::Done { frame, class: _ } => Block::At(frame),
-        Granted::Refused(_) => Block::Refused,
-    }
 }
 
 // Takes a pattern's blocks, the largest first, up to the first refusal.
@@ -70,8 +41,11 @@ fn take(
         if !patterns::has_block(wanted, order) {
             continue;
         }
-        let block = take_block(h, table, trees, locals, bits, p, order);
-        let Block::At(frame) = block else {
+        let q = patterns::request(p, order);
+        let reply = get::get(h, table, trees, locals, bits, Name::Any, q);
+        says::got(p, order, reply);
+        let granted = reply.granted;
+        let Granted::Done { frame, class: _ } = granted else {
             return Held {
                 whole: false,
                 frames: frames,
@@ -88,25 +62,7 @@ fn take(
     }
 }
 
-// Gives back a pattern's block of an order, with the class and local that it was taken with.
-fn give_block(
-    h: Header,
-    table: &[u32; 64],
-    trees: &mut [u32],
-    locals: &mut [u64],
-    bits: &mut [u64],
-    p: Pattern,
-    order: usize,
-    frame: usize,
-)
-    requires { ⌜ order < 12 ⌝ }
-{
-    let q = patterns::request(p, order);
-    let outcome = put::put(h, table, trees, locals, bits, frame, q);
-    says::gave(p, order, outcome);
-}
-
-// Gives back the blocks that are held of a pattern.
+// Gives back the blocks that are held of a pattern, with the class and local that they were taken with.
 fn give(
     h: Header,
     table: &[u32; 64],
@@ -124,7 +80,18 @@ fn give(
         if !patterns::has_block(frames, order) {
             continue;
         }
-        give_block(h, table, trees, locals, bits, p, order, first[order]);
+        let q = patterns::request(p, order);
+        let outcome = put::put(h, table, trees, locals, bits, first[order], q);
+        says::gave(p, order, outcome);
+    }
+}
+
+// Nothing is held.
+fn nothing() -> Held {
+    Held {
+        whole: false,
+        frames: 0,
+        first: [0; 12],
     }
 }
 
@@ -144,11 +111,7 @@ fn show(
     }
     give(h, table, trees, locals, bits, p, held);
     says::built_in(p);
-    Held {
-        whole: false,
-        frames: 0,
-        first: [0; 12],
-    }
+    nothing()
 }
 
 // The figures of the store.
@@ -163,23 +126,29 @@ fn figures<'a>(
     says::figures(h.frames, report);
 }
 
+// The patterns in the order in which they are shown.
+fn pattern(n: usize) -> Pattern {
+    match n {
+        0 => Pattern::Raster,
+        1 => Pattern::FirstOverlay,
+        _ => Pattern::SecondOverlay,
+    }
+}
+
 // The calls after an accepted start: the patterns are taken and given back, and after a drain all frames are free again.
 fn serve(h: Header, table: &[u32; 64], trees: &mut [u32], locals: &mut [u64], bits: &mut [u64]) {
-    let raster = show(h, table, trees, locals, bits, Pattern::Raster);
-    let first = show(h, table, trees, locals, bits, Pattern::FirstOverlay);
-    let second = show(h, table, trees, locals, bits, Pattern::SecondOverlay);
+    let mut held = [nothing(); 3];
+    let mut n = 0;
+    while n < 3 {
+        held[n] = show(h, table, trees, locals, bits, pattern(n));
+        n += 1;
+    }
     figures(h, table, trees, locals, bits);
-    give(h, table, trees, locals, bits, Pattern::Raster, raster);
-    give(h, table, trees, locals, bits, Pattern::FirstOverlay, first);
-    give(
-        h,
-        table,
-        trees,
-        locals,
-        bits,
-        Pattern::SecondOverlay,
-        second,
-    );
+    let mut n = 0;
+    while n < 3 {
+        give(h, table, trees, locals, bits, pattern(n), held[n]);
+        n += 1;
+    }
     let drained = drain::drain(h, table, trees, locals, bits);
     says::outcome(b"drain", drained);
     figures(h, table, trees, locals, bits);

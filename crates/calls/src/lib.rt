@@ -1,70 +1,7 @@
 // The calls that lines name, on the words lent, and their answers written into a buffer.
 use commands::Call;
 use rules::Header;
-use rules::Name;
-use rules::Request;
 use stores::Held;
-
-// A start, and its answer.
-fn start(
-    h: Header,
-    table: &[u32; 64],
-    trees: &mut [u32],
-    locals: &mut [u64],
-    bits: &mut [u64],
-    all_free: bool,
-    out: &mut [u8],
-    at: usize,
-) -> usize {
-    let o = start::start(h, table, trees, locals, bits, all_free);
-    answers::outcome(out, at, b"start ", o)
-}
-
-// A get, and its answer.
-fn get(
-    h: Header,
-    table: &[u32; 64],
-    trees: &mut [u32],
-    locals: &mut [u64],
-    bits: &mut [u64],
-    name: Name,
-    q: Request,
-    out: &mut [u8],
-    at: usize,
-) -> usize {
-    let r = get::get(h, table, trees, locals, bits, name, q);
-    replies::reply(out, at, r)
-}
-
-// A put, and its answer.
-fn put(
-    h: Header,
-    table: &[u32; 64],
-    trees: &mut [u32],
-    locals: &mut [u64],
-    bits: &mut [u64],
-    frame: usize,
-    q: Request,
-    out: &mut [u8],
-    at: usize,
-) -> usize {
-    let o = put::put(h, table, trees, locals, bits, frame, q);
-    answers::outcome(out, at, b"put ", o)
-}
-
-// A drain, and its answer.
-fn drain(
-    h: Header,
-    table: &[u32; 64],
-    trees: &mut [u32],
-    locals: &mut [u64],
-    bits: &mut [u64],
-    out: &mut [u8],
-    at: usize,
-) -> usize {
-    let o = drain::drain(h, table, trees, locals, bits);
-    answers::outcome(out, at, b"drain ", o)
-}
 
 // Statistics with so many rows lent, and their answer.
 fn stats<'a>(
@@ -81,9 +18,10 @@ fn stats<'a>(
     answers::stats(out, at, told)
 }
 
-// A call, on the words lent to it.
+// A call on the words lent to it, and its answer.
 fn call_on(
-    held: Held,
+    h: Header,
+    rows: usize,
     table: &[u32; 64],
     trees: &mut [u32],
     locals: &mut [u64],
@@ -92,13 +30,24 @@ fn call_on(
     out: &mut [u8],
     at: usize,
 ) -> usize {
-    let h = held.h;
     match c {
-        Call::Start(all_free) => start(h, table, trees, locals, bits, all_free, out, at),
-        Call::Get { name, q } => get(h, table, trees, locals, bits, name, q, out, at),
-        Call::Put { frame, q } => put(h, table, trees, locals, bits, frame, q, out, at),
-        Call::Drain => drain(h, table, trees, locals, bits, out, at),
-        Call::Stats => stats(h, table, trees, locals, bits, held.rows, out, at),
+        Call::Start(all_free) => {
+            let o = start::start(h, table, trees, locals, bits, all_free);
+            answers::outcome(out, at, b"start ", o)
+        }
+        Call::Get { name, q } => {
+            let r = get::get(h, table, trees, locals, bits, name, q);
+            replies::reply(out, at, r)
+        }
+        Call::Put { frame, q } => {
+            let o = put::put(h, table, trees, locals, bits, frame, q);
+            answers::outcome(out, at, b"put ", o)
+        }
+        Call::Drain => {
+            let o = drain::drain(h, table, trees, locals, bits);
+            answers::outcome(out, at, b"drain ", o)
+        }
+        Call::Stats => stats(h, table, trees, locals, bits, rows, out, at),
     }
 }
 
@@ -117,7 +66,8 @@ pub fn call(
     let l = stores::lent_locals(held, locals.len());
     let b = stores::lent_bits(held, bits.len());
     call_on(
-        held,
+        held.h,
+        held.rows,
         table,
         &mut trees[0..t],
         &mut locals[0..l],

@@ -6,13 +6,7 @@ use rules::Given;
 use rules::Name;
 use rules::Request;
 
-// A length lent: the exact one, or a number.
-pub enum Length {
-    Exact,
-    Of(usize),
-}
-
-// A line that sets the header, or what is lent.
+// A line that sets the header, or what is lent. A length lent is held plus one; 0 is the exact one.
 pub enum Setting {
     Frames(usize),
     Default(usize),
@@ -21,9 +15,9 @@ pub enum Setting {
         place: u8,
     },
     Lend {
-        trees: Length,
-        locals: Length,
-        bits: Length,
+        trees: usize,
+        locals: usize,
+        bits: usize,
     },
     Rows(usize),
 }
@@ -84,42 +78,22 @@ pub fn is_end(a: Arg) -> bool {
     a.kind == 0
 }
 
-// A number within its place's bound.
-enum Bounded {
-    Is(u64),
-    Not,
+// Whether a word is a number up to `most`.
+fn is_number(a: Arg, most: u64) -> bool {
+    (a.kind == 2) & (a.value <= most)
 }
 
-// A number up to `most`.
-fn within(a: Arg, most: u64) -> Bounded {
-    if a.kind != 2 {
-        return Bounded::Not;
-    }
-    if a.value > most {
-        return Bounded::Not;
-    }
-    Bounded::Is(a.value)
+// Whether a word is a number up to `most`, or `-`.
+fn is_optional(a: Arg, most: u64) -> bool {
+    (a.kind == 1) | is_number(a, most)
 }
 
-// A number within its bound, or `-`.
-enum Optional {
-    Is(u64),
-    Nothing,
-    Not,
-}
-
-// A number up to `most`, or `-`.
-fn maybe(a: Arg, most: u64) -> Optional {
+// A number plus one; 0 for `-`.
+fn plus_one(a: Arg) -> u64 {
     if a.kind == 1 {
-        return Optional::Nothing;
+        return 0;
     }
-    if a.kind != 2 {
-        return Optional::Not;
-    }
-    if a.value > most {
-        return Optional::Not;
-    }
-    Optional::Is(a.value)
+    std::num::wrapping_add_u64(a.value, 1)
 }
 
 // The low 8 bits.
@@ -132,59 +106,39 @@ fn low32(x: u64) -> u32 {
     (x % 4294967296) as u32
 }
 
+// Whether the words are one number, up to `most`.
+fn is_one(w: Args, most: u64) -> bool {
+    is_number(w.a, most) & is_end(w.b)
+}
+
+// Whether the words are two numbers, up to these.
+fn are_two(w: Args, first: u64, second: u64) -> bool {
+    is_number(w.a, first) & is_number(w.b, second) & is_end(w.c)
+}
+
 // frames F
 pub fn frames(w: Args) -> Command {
-    let Bounded::Is(f) = within(w.a, u64::MAX) else {
-        return Command::Wrong;
-    };
-    if is_end(w.b) {
-        return Command::Set(Setting::Frames(f as usize));
+    if is_one(w, u64::MAX) {
+        return Command::Set(Setting::Frames(w.a.value as usize));
     }
     Command::Wrong
 }
 
 // default D
 pub fn default_class(w: Args) -> Command {
-    let Bounded::Is(d) = within(w.a, 200) else {
-        return Command::Wrong;
-    };
-    if is_end(w.b) {
-        return Command::Set(Setting::Default(d as usize));
+    if is_one(w, 200) {
+        return Command::Set(Setting::Default(w.a.value as usize));
     }
     Command::Wrong
 }
 
-// The place of a class in the header: 0 where it is unconfigured, else its locals plus one.
-fn place(k: Optional) -> u8 {
-    match k {
-        Optional::Is(n) => low8(std::num::wrapping_add_u64(n, 1)),
-        Optional::Nothing => 0,
-        Optional::Not => 0,
-    }
-}
-
-// Whether a word is a number within its bound, or `-`.
-fn is_some(k: Optional) -> bool {
-    match k {
-        Optional::Is(_) => true,
-        Optional::Nothing => true,
-        Optional::Not => false,
-    }
-}
-
-// class C K
+// class C K: the place of a class in the header is 0 where it is unconfigured, else its locals plus one.
 pub fn class(w: Args) -> Command {
-    let Bounded::Is(c) = within(w.a, 7) else {
-        return Command::Wrong;
-    };
-    let k = maybe(w.b, 200);
-    if is_some(k) {
-        if is_end(w.c) {
-            return Command::Set(Setting::Class {
-                class: c as usize,
-                place: place(k),
-            });
-        }
+    if is_number(w.a, 7) & is_optional(w.b, 200) & is_end(w.c) {
+        return Command::Set(Setting::Class {
+            class: w.a.value as usize,
+            place: low8(plus_one(w.b)),
+        });
     }
     Command::Wrong
 }
@@ -194,96 +148,55 @@ fn pair_word(kind: u64, cut: u64, low: u64, high: u64) -> u32 {
     low32(kind % 4 + 4 * (cut % 16384) + 65536 * (low % 256) + 16777216 * (high % 256))
 }
 
-// pair R T: the place in the table.
-fn pair_place(w: Args) -> Bounded {
-    let Bounded::Is(r) = within(w.a, 7) else {
-        return Bounded::Not;
-    };
-    let Bounded::Is(t) = within(w.b, 7) else {
-        return Bounded::Not;
-    };
-    Bounded::Is(8 * (r % 8) + t % 8)
+// Whether the words are R T KIND CUT LOW HIGH.
+fn is_pair(w: Args) -> bool {
+    let place = is_number(w.a, 7) & is_number(w.b, 7);
+    let form = is_number(w.c, 3) & is_number(w.d, 16383);
+    place & form & is_number(w.e, 255) & is_number(w.f, 255) & is_end(w.g)
 }
 
 // pair R T KIND CUT LOW HIGH
 pub fn pair(w: Args) -> Command {
-    let Bounded::Is(at) = pair_place(w) else {
-        return Command::Wrong;
-    };
-    let Bounded::Is(kind) = within(w.c, 3) else {
-        return Command::Wrong;
-    };
-    let Bounded::Is(cut) = within(w.d, 16383) else {
-        return Command::Wrong;
-    };
-    let Bounded::Is(low) = within(w.e, 255) else {
-        return Command::Wrong;
-    };
-    let Bounded::Is(high) = within(w.f, 255) else {
-        return Command::Wrong;
-    };
-    if is_end(w.g) {
+    if is_pair(w) {
         return Command::Store(Store::Pair {
-            at: at as usize,
-            word: pair_word(kind, cut, low, high),
+            at: (8 * (w.a.value % 8) + w.b.value % 8) as usize,
+            word: pair_word(w.c.value, w.d.value, w.e.value, w.f.value),
         });
     }
     Command::Wrong
 }
 
-// A length of `lend`.
-fn length_of(k: Optional) -> Length {
-    match k {
-        Optional::Is(n) => Length::Of(n as usize),
-        Optional::Nothing => Length::Exact,
-        Optional::Not => Length::Exact,
-    }
+// Whether the words are T L B.
+fn are_lengths(w: Args) -> bool {
+    is_optional(w.a, 200) & is_optional(w.b, 256) & is_optional(w.c, 6400) & is_end(w.d)
 }
 
 // lend T L B
 pub fn lend(w: Args) -> Command {
-    let trees = maybe(w.a, 200);
-    let locals = maybe(w.b, 256);
-    let bits = maybe(w.c, 6400);
-    if is_some(trees) {
-        if is_some(locals) {
-            if is_some(bits) {
-                if is_end(w.d) {
-                    return Command::Set(Setting::Lend {
-                        trees: length_of(trees),
-                        locals: length_of(locals),
-                        bits: length_of(bits),
-                    });
-                }
-            }
-        }
+    if are_lengths(w) {
+        return Command::Set(Setting::Lend {
+            trees: plus_one(w.a) as usize,
+            locals: plus_one(w.b) as usize,
+            bits: plus_one(w.c) as usize,
+        });
     }
     Command::Wrong
 }
 
 // rows R
 pub fn rows(w: Args) -> Command {
-    let Bounded::Is(n) = within(w.a, 16) else {
-        return Command::Wrong;
-    };
-    if is_end(w.b) {
-        return Command::Set(Setting::Rows(n as usize));
+    if is_one(w, 16) {
+        return Command::Set(Setting::Rows(w.a.value as usize));
     }
     Command::Wrong
 }
 
 // entry I W
 pub fn entry(w: Args) -> Command {
-    let Bounded::Is(at) = within(w.a, 199) else {
-        return Command::Wrong;
-    };
-    let Bounded::Is(x) = within(w.b, 4294967295) else {
-        return Command::Wrong;
-    };
-    if is_end(w.c) {
+    if are_two(w, 199, 4294967295) {
         return Command::Store(Store::Entry {
-            at: at as usize,
-            word: low32(x),
+            at: w.a.value as usize,
+            word: low32(w.b.value),
         });
     }
     Command::Wrong
@@ -291,16 +204,10 @@ pub fn entry(w: Args) -> Command {
 
 // local I W
 pub fn local(w: Args) -> Command {
-    let Bounded::Is(at) = within(w.a, 255) else {
-        return Command::Wrong;
-    };
-    let Bounded::Is(x) = within(w.b, u64::MAX) else {
-        return Command::Wrong;
-    };
-    if is_end(w.c) {
+    if are_two(w, 255, u64::MAX) {
         return Command::Store(Store::Local {
-            at: at as usize,
-            word: x,
+            at: w.a.value as usize,
+            word: w.b.value,
         });
     }
     Command::Wrong
@@ -308,106 +215,83 @@ pub fn local(w: Args) -> Command {
 
 // word I W
 pub fn bitmap_word(w: Args) -> Command {
-    let Bounded::Is(at) = within(w.a, 6399) else {
-        return Command::Wrong;
-    };
-    let Bounded::Is(x) = within(w.b, u64::MAX) else {
-        return Command::Wrong;
-    };
-    if is_end(w.c) {
+    if are_two(w, 6399, u64::MAX) {
         return Command::Store(Store::Word {
-            at: at as usize,
-            word: x,
+            at: w.a.value as usize,
+            word: w.b.value,
         });
     }
     Command::Wrong
 }
 
+// Whether the words are FROM COUNT W.
+fn is_fill(w: Args) -> bool {
+    let left = std::num::wrapping_sub_u64(6400, w.a.value);
+    is_number(w.a, 6400) & is_number(w.b, left) & is_number(w.c, u64::MAX) & is_end(w.d)
+}
+
 // fill FROM COUNT W
 pub fn fill(w: Args) -> Command {
-    let Bounded::Is(from) = within(w.a, 6400) else {
-        return Command::Wrong;
-    };
-    let Bounded::Is(count) = within(w.b, std::num::wrapping_sub_u64(6400, from)) else {
-        return Command::Wrong;
-    };
-    let Bounded::Is(x) = within(w.c, u64::MAX) else {
-        return Command::Wrong;
-    };
-    if is_end(w.d) {
+    if is_fill(w) {
         return Command::Store(Store::Fill {
-            from: from as usize,
-            count: count as usize,
-            word: x,
+            from: w.a.value as usize,
+            count: w.b.value as usize,
+            word: w.c.value,
         });
     }
     Command::Wrong
 }
 
 // The local that a call gives.
-fn given(k: Optional) -> Given {
-    match k {
-        Optional::Is(n) => Given::Local(n as usize),
-        Optional::Nothing => Given::Nothing,
-        Optional::Not => Given::Nothing,
+fn given(a: Arg) -> Given {
+    if a.kind == 1 {
+        return Given::Nothing;
     }
+    Given::Local(a.value as usize)
 }
 
-// ORDER CLASS LOCAL of a call, if they are right and nothing follows.
-enum Wanted {
-    For(Request),
-    Not,
+// The frame that a get names.
+fn name(a: Arg) -> Name {
+    if a.kind == 1 {
+        return Name::Any;
+    }
+    Name::Frame(a.value as usize)
+}
+
+// Whether the words after FRAME are ORDER CLASS LOCAL.
+fn is_request(w: Args) -> bool {
+    let order = is_number(w.b, u64::MAX);
+    let class = is_number(w.c, u64::MAX);
+    order & class & is_optional(w.d, u64::MAX) & is_end(w.e)
 }
 
 // ORDER CLASS LOCAL, after FRAME.
-fn asked(w: Args) -> Wanted {
-    let Bounded::Is(order) = within(w.b, u64::MAX) else {
-        return Wanted::Not;
-    };
-    let Bounded::Is(class) = within(w.c, u64::MAX) else {
-        return Wanted::Not;
-    };
-    let k = maybe(w.d, u64::MAX);
-    if is_some(k) {
-        if is_end(w.e) {
-            return Wanted::For(Request {
-                order: order as usize,
-                class: class as usize,
-                local: given(k),
-            });
-        }
+fn request(w: Args) -> Request {
+    Request {
+        order: w.b.value as usize,
+        class: w.c.value as usize,
+        local: given(w.d),
     }
-    Wanted::Not
 }
 
 // get FRAME ORDER CLASS LOCAL
 pub fn get(w: Args) -> Command {
-    let Wanted::For(q) = asked(w) else {
-        return Command::Wrong;
-    };
-    match maybe(w.a, u64::MAX) {
-        Optional::Is(f) => Command::Call(Call::Get {
-            name: Name::Frame(f as usize),
-            q: q,
-        }),
-        Optional::Nothing => Command::Call(Call::Get {
-            name: Name::Any,
-            q: q,
-        }),
-        Optional::Not => Command::Wrong,
+    if is_optional(w.a, u64::MAX) & is_request(w) {
+        return Command::Call(Call::Get {
+            name: name(w.a),
+            q: request(w),
+        });
     }
+    Command::Wrong
 }
 
 // put FRAME ORDER CLASS LOCAL
 pub fn put(w: Args) -> Command {
-    let Wanted::For(q) = asked(w) else {
-        return Command::Wrong;
-    };
-    let Bounded::Is(f) = within(w.a, u64::MAX) else {
-        return Command::Wrong;
-    };
-    Command::Call(Call::Put {
-        frame: f as usize,
-        q: q,
-    })
+    if is_number(w.a, u64::MAX) & is_request(w) {
+        return Command::Call(Call::Put {
+            frame: w.a.value as usize,
+            q: request(w),
+        });
+    }
+    Command::Wrong
 }

@@ -2,6 +2,7 @@
 ghost use Prim.Native.Nat.{_<_, _+_};
 use commands::Command;
 use libc::STDIN_FILENO;
+use prints::Program;
 
 // Where the run stands: the next line's place in the input, the bytes there, the lines counted, whether a line too long is passed over, whether the input has ended, the answers' bytes not yet written, and whether all is done.
 pub struct Run {
@@ -27,17 +28,10 @@ pub fn begun() -> Run {
     }
 }
 
-// Writes the first `at` bytes out, or says that it cannot.
-pub fn flush(out: &[u8], at: usize) {
-    if at <= out.len() {
-        prints::text(b"runner", &out[0..at]);
-    }
-}
-
 // Room for an answer more, of at most 198,000 bytes: the answers are written out where fewer are left.
 pub fn room(out: &[u8; 262144], at: usize) -> usize {
     if at > 60000 {
-        flush(out, at);
+        prints::start(Program::Runner, out, at);
         return 0;
     }
     at
@@ -46,7 +40,7 @@ pub fn room(out: &[u8; 262144], at: usize) -> usize {
 // What there is to say where there is no input at all.
 fn usage() {
     prints::text(
-        b"runner",
+        Program::Runner,
         b"runner: a frame allocator's calls, one a line, on one store of up to 200 trees.\nUse: runner < LINES > ANSWERS; lines: frames, default, class, pair, start, get, put, drain, stats, look.\nEvery line and answer is described, with examples, in docs/LINES.md.\n",
     );
 }
@@ -126,7 +120,7 @@ fn say_wrong(buf: &[u8], number: u64, out: &mut [u8]) {
         return;
     }
     let at = answers::wrong(out, 0, number);
-    flush(out, at);
+    prints::start(Program::Runner, out, at);
 }
 
 // The run where a line too long is passed over, up to its line feed.
@@ -190,7 +184,7 @@ fn after_read(buf: &mut [u8], left: usize, r: Run) -> Run {
 
 // More input, once the answers are written.
 pub fn more(buf: &mut [u8; 65536], r: Run, out: &mut [u8; 262144]) -> Run {
-    flush(out, r.at);
+    prints::start(Program::Runner, out, r.at);
     if r.ended {
         return with_input(r, 0, true, true);
     }

@@ -4,6 +4,7 @@ mod buffer;
 pub use buffer::keep;
 pub use buffer::line_end;
 ghost use Prim.Native.Nat.{_<_, _+_, _≤_};
+ghost use lib.ListN.{length};
 
 // A word of a line, by its kind: 0 none is left, 1 `-`, 2 a number, 3 something else.
 pub struct Arg {
@@ -63,7 +64,9 @@ pub fn past_spaces(s: &[u8], at: usize) -> usize {
 }
 
 // The first space at or after `at`, or the length.
-pub fn word_end(s: &[u8], at: usize) -> usize {
+pub fn word_end(s: &[u8], at: usize) -> usize
+    ensures { λ r. ⌜ (r ≤ length (now (s .entry))) × (at ≤ length (now (s .entry)) → at ≤ r) ⌝ }
+{
     let mut i = at;
     while i < s.len() {
         if s[i] == b' ' {
@@ -207,14 +210,12 @@ fn word(s: &[u8], at: usize) -> Read {
     let from = past_spaces(s, at);
     let to = word_end(s, from);
     if from < to {
-        if to <= s.len() {
-            let a = value(&s[from..to]);
-            return Read {
-                kind: a.kind,
-                value: a.value,
-                next: to,
-            };
-        }
+        let a = value(&s[from..to]);
+        return Read {
+            kind: a.kind,
+            value: a.value,
+            next: to,
+        };
     }
     Read {
         kind: 0,
@@ -244,7 +245,7 @@ pub fn words(s: &[u8], at: usize) -> Args {
 }
 
 // Whether a word is this name.
-pub fn is(w: &[u8], name: &[u8]) -> bool {
+fn is(w: &[u8], name: &[u8]) -> bool {
     if w.len() != name.len() {
         return false;
     }
@@ -256,4 +257,22 @@ pub fn is(w: &[u8], name: &[u8]) -> bool {
         i += 1;
     }
     true
+}
+
+// The place of a word among names, each of which ends with a space, from 0 on; how many they are where it is none of them.
+pub fn place(w: &[u8], names: &[u8]) -> usize {
+    let mut n = 0;
+    let mut from = 0;
+    while from < names.len() {
+        let to = word_end(names, from);
+        if to >= names.len() {
+            return n;
+        }
+        if is(w, &names[from..to]) {
+            return n;
+        }
+        n = std::num::wrapping_add_usize(n, 1);
+        from = to + 1;
+    }
+    n
 }

@@ -12,99 +12,71 @@ fn start(s: &[u8], at: usize) -> Command {
     if lines::past_spaces(s, to) < s.len() {
         return Command::Wrong;
     }
-    if from < to {
-        if to <= s.len() {
-            if lines::is(&s[from..to], b"free") {
-                return Command::Call(Call::Start(true));
-            }
-            if lines::is(&s[from..to], b"held") {
-                return Command::Call(Call::Start(false));
-            }
-        }
-    }
-    Command::Wrong
-}
-
-// A command of one word.
-fn alone(name: &[u8], w: Args) -> Command {
-    if commands::is_end(w.a) {
-        if lines::is(name, b"drain") {
-            return Command::Call(Call::Drain);
-        }
-        if lines::is(name, b"stats") {
-            return Command::Call(Call::Stats);
-        }
-        if lines::is(name, b"dump") {
-            return Command::Show(Show::Dump);
-        }
-        if lines::is(name, b"sum") {
-            return Command::Show(Show::Sum);
-        }
-        if lines::is(name, b"look") {
-            return Command::Show(Show::Look);
-        }
-    }
-    Command::Wrong
-}
-
-// A line that sets the header or what is lent, or a command of one word.
-fn header_line(name: &[u8], w: Args) -> Command {
-    if lines::is(name, b"frames") {
-        return commands::frames(w);
-    }
-    if lines::is(name, b"default") {
-        return commands::default_class(w);
-    }
-    if lines::is(name, b"class") {
-        return commands::class(w);
-    }
-    if lines::is(name, b"lend") {
-        return commands::lend(w);
-    }
-    if lines::is(name, b"rows") {
-        return commands::rows(w);
-    }
-    alone(name, w)
-}
-
-// A command whose words are numbers.
-fn numbered(name: &[u8], w: Args) -> Command {
-    if lines::is(name, b"get") {
-        return commands::get(w);
-    }
-    if lines::is(name, b"put") {
-        return commands::put(w);
-    }
-    if lines::is(name, b"word") {
-        return commands::bitmap_word(w);
-    }
-    if lines::is(name, b"entry") {
-        return commands::entry(w);
-    }
-    if lines::is(name, b"local") {
-        return commands::local(w);
-    }
-    if lines::is(name, b"fill") {
-        return commands::fill(w);
-    }
-    if lines::is(name, b"pair") {
-        return commands::pair(w);
-    }
-    header_line(name, w)
-}
-
-// The command whose name stands from `from` to `to`.
-fn named(s: &[u8], from: usize, to: usize) -> Command {
-    if from > to {
+    if from >= to {
         return Command::Wrong;
     }
-    if to > s.len() {
+    match lines::place(&s[from..to], b"free held ") {
+        0 => Command::Call(Call::Start(true)),
+        1 => Command::Call(Call::Start(false)),
+        _ => Command::Wrong,
+    }
+}
+
+// A command of one word, by its name's place.
+fn alone(n: usize) -> Command {
+    match n {
+        13 => Command::Call(Call::Drain),
+        14 => Command::Call(Call::Stats),
+        15 => Command::Show(Show::Dump),
+        16 => Command::Show(Show::Sum),
+        17 => Command::Show(Show::Look),
+        _ => Command::Wrong,
+    }
+}
+
+// A command and the words after its name, by its name's place.
+fn placed(n: usize, w: Args) -> Command {
+    match n {
+        1 => commands::get(w),
+        2 => commands::put(w),
+        3 => commands::bitmap_word(w),
+        4 => commands::entry(w),
+        5 => commands::local(w),
+        6 => commands::fill(w),
+        7 => commands::pair(w),
+        8 => commands::frames(w),
+        9 => commands::default_class(w),
+        10 => commands::class(w),
+        11 => commands::lend(w),
+        12 => commands::rows(w),
+        _ => {
+            if commands::is_end(w.a) {
+                return alone(n);
+            }
+            Command::Wrong
+        }
+    }
+}
+
+// The place of a command's name.
+fn place(name: &[u8]) -> usize {
+    lines::place(
+        name,
+        b"start get put word entry local fill pair frames default class lend rows drain stats dump sum look ",
+    )
+}
+
+// The command whose name stands from `from` on.
+fn named(s: &[u8], from: usize) -> Command {
+    let to = lines::word_end(s, from);
+    if from >= to {
         return Command::Wrong;
     }
-    if lines::is(&s[from..to], b"start") {
+    let n = place(&s[from..to]);
+    if n == 0 {
         return start(s, to);
     }
-    numbered(&s[from..to], lines::words(s, to))
+    placed(n, lines::words(s, to))
 }
 
 // What a line says, without its line feed.
@@ -116,5 +88,5 @@ pub fn parse(s: &[u8]) -> Command {
     if s[0] == b'#' {
         return Command::Nothing;
     }
-    named(s, from, lines::word_end(s, from))
+    named(s, from)
 }

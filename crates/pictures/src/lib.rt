@@ -1,5 +1,6 @@
 // What lines that only look answer: the words lent as lines, their sums, and the picture.
 use commands::Show;
+use prints::Program;
 use rules::Header;
 use stores::Held;
 
@@ -20,7 +21,7 @@ fn show_these<'a>(
         Show::Dump => dumps::dump(trees, locals, bits, out, at),
         Show::Sum => dumps::sum(trees, locals, bits, out, at),
         Show::Look => {
-            inputs::flush(out, at);
+            prints::start(Program::Runner, out, at);
             look::look(h, table, trees, locals, bits);
             0
         }

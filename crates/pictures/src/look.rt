@@ -1,20 +1,10 @@
 // The picture for people: trees as a map of fill, class and reservation, the locals, the totals; at most 100 columns.
+use prints::Program;
 use rules::Header;
 use rules::Local;
 use rules::Tree;
 use ways::Totals;
 ghost use Prim.Native.Nat.{_+_, _<_};
-
-// Writes a text.
-fn say(text: &[u8]) {
-    prints::text(b"runner", text);
-}
-
-// Writes a text and a number.
-fn count(text: &[u8], n: usize) {
-    say(text);
-    prints::number(b"runner", n);
-}
 
 // How full a tree is: `.` all free, 1 to 9 tenths held, `#` all held, `!` more free than a tree has.
 fn fill_sign(free: usize) -> u8 {
@@ -54,22 +44,15 @@ fn cell(t: Tree) {
         digit(t.class),
         reserved_sign(t.reserved),
     ];
-    say(&signs);
-}
-
-// Writes the first `to` bytes of a text.
-fn say_part(text: &[u8], to: usize) {
-    if to <= text.len() {
-        say(&text[0..to]);
-    }
+    prints::text(Program::Runner, &signs);
 }
 
 // A new line of the map, and its first tree's number in three places.
 fn margin(i: usize) {
     let mut text = [0u8; 20];
     let to = texts::put_padded(&mut text, 0, i as u64, 3);
-    say(b"\n  ");
-    say_part(&text, to);
+    prints::text(Program::Runner, b"\n  ");
+    prints::start(Program::Runner, &text, to);
 }
 
 // What stands before a tree's cell: at each twentieth a new line and its number.
@@ -92,11 +75,11 @@ fn map(trees: &[u32]) {
 // A local, if it is present: its place, its tree and its free.
 fn one_local(i: usize, l: Local) {
     if l.present {
-        count(b"  local ", i);
-        count(b": tree ", l.row / 32);
-        count(b", row ", l.row);
-        count(b", free ", l.free);
-        say(b"\n");
+        prints::form(
+            Program::Runner,
+            b"  local %: tree %, row %, free %\n",
+            [i, l.row / 32, l.row, l.free],
+        );
     }
 }
 
@@ -114,10 +97,13 @@ fn class_line(h: Header, class: usize)
     requires { ⌜ class < 8 ⌝ }
 {
     if words::is_configured(h, class) {
-        count(b"  class ", class);
-        count(b": locals ", words::locals_of(h, class));
-        count(b", the first is local ", words::first_slot(h, class));
-        say(b"\n");
+        let locals = words::locals_of(h, class);
+        let first = words::first_slot(h, class);
+        prints::form(
+            Program::Runner,
+            b"  class %: locals %, the first is local %\n",
+            [class, locals, first, 0],
+        );
     }
 }
 
@@ -130,23 +116,16 @@ fn class_lines(h: Header) {
     }
 }
 
-// The name of a number.
-fn name(n: usize) {
-    let mut text = [0u8; 16];
-    let to = names::name(&mut text, 0, n);
-    say_part(&text, to);
-}
-
 // Whether the state stands, and the totals, on so many frames and trees.
 fn total_line(t: Totals, frames: usize, trees: usize) {
     let o = t.outcome;
-    say(b"state ");
-    name(numbers::number(o));
-    count(b": free frames ", t.free);
-    count(b" of ", frames);
-    count(b", whole free trees ", t.trees);
-    count(b" of ", trees);
-    say(b"\n");
+    prints::text(Program::Runner, b"state ");
+    prints::name(Program::Runner, numbers::number(o));
+    prints::form(
+        Program::Runner,
+        b": free frames % of %, whole free trees % of %\n",
+        [t.free, frames, t.trees, trees],
+    );
 }
 
 // The totals of the words.
@@ -164,18 +143,19 @@ fn totals<'a>(
 
 // The header, and the signs of the map.
 fn heading(h: Header) {
-    count(b"frames ", h.frames);
-    count(b", default class ", h.default);
-    say(
-        b"\ntrees: . free, 1 to 9 tenths held, # none free; then the class; * reserved, its free is with a local",
+    prints::form(
+        Program::Runner,
+        b"frames %, default class %\n\
+        trees: . free, 1 to 9 tenths held, # none free; then the class; * reserved, its free is with a local",
+        [h.frames, h.default, 0, 0],
     );
 }
 
 // The classes and the reservations.
 fn holders(h: Header, locals: &[u64]) {
-    say(b"\nclasses\n");
+    prints::text(Program::Runner, b"\nclasses\n");
     class_lines(h);
-    say(b"reservations\n");
+    prints::text(Program::Runner, b"reservations\n");
     local_lines(locals);
 }
 

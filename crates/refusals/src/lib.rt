@@ -1,4 +1,5 @@
-// Each refusal by a call that gives it, and what the loader does then. Only Stuck has no such call.
+// Each refusal by a call that gives it, and what the loader does then. Only Stuck has no such call. A call is named by the number n that it is to be
+// refused with.
 ghost use Prim.Native.Nat.{_<_};
 use rules::Given;
 use rules::Header;
@@ -7,12 +8,12 @@ use rules::Request;
 use ways::Granted;
 use ways::Reply;
 
-// The frame that the get to be refused with n names: the one past the last, one that is no multiple of 2, one that is held, or none.
+// The frame that the get names: the one past the last, one that is no multiple of 2, one that is held, or none.
 fn name(frames: usize, n: usize) -> Name {
     match n {
         3 => Name::Frame(frames),
         4 => Name::Frame(1),
-        7 => Name::Frame(0),
+        7 | 12 => Name::Frame(0),
         _ => Name::Any,
     }
 }
@@ -60,57 +61,27 @@ fn number(reply: Reply) -> usize {
     }
 }
 
-// A get to be refused with n, and the number that it answers.
-fn get(
-    h: Header,
-    table: &[u32; 64],
-    trees: &mut [u32],
-    locals: &mut [u64],
-    bits: &mut [u64],
-    n: usize,
-) -> usize {
-    let q = request(n);
-    number(get::get(h, table, trees, locals, bits, name(h.frames, n), q))
-}
-
-// The get that was to be refused with n, and the number that it answered.
-fn say_get(n: usize, number: usize) {
-    match n {
-        2 => says::answered(b"get of order 12", number),
-        3 => says::answered(b"get of the frame past the last", number),
-        4 => says::answered(b"get of frame 1 at order 1", number),
-        5 => says::answered(b"get for class 2", number),
-        6 => says::answered(b"get with local 2", number),
-        _ => says::answered(b"get of frame 0, which is held", number),
-    }
-}
-
-// The gets to be refused with 2 to 7.
-fn gets(h: Header, table: &[u32; 64], trees: &mut [u32], locals: &mut [u64], bits: &mut [u64]) {
-    let mut n = 2;
-    while n < 8 {
-        say_get(n, get(h, table, trees, locals, bits, n));
-        n += 1;
-    }
-}
-
-// A drain on a tree word too few.
+// The number of a drain on a tree word too few.
 fn short_drain(
     h: Header,
     table: &[u32; 64],
     trees: &mut [u32],
     locals: &mut [u64],
     bits: &mut [u64],
-) {
-    if trees.len() > 0 {
-        let n = trees.len() - 1;
-        let drained = drain::drain(h, table, &mut trees[0..n], locals, bits);
-        says::outcome(b"drain on a tree word too few", drained);
+) -> usize {
+    if trees.len() == 0 {
+        return 0;
     }
+    let n = trees.len() - 1;
+    let o = drain::drain(h, table, &mut trees[0..n], locals, bits);
+    numbers::number(o)
 }
 
-// The header with the other class as default: its table is not accepted.
-fn other(h: Header) -> Header {
+// The header of the call to be refused with n: with the other class as default its table is not accepted.
+fn header(h: Header, n: usize) -> Header {
+    if n != 10 {
+        return h;
+    }
     let places = h.places;
     Header {
         frames: h.frames,
@@ -119,35 +90,77 @@ fn other(h: Header) -> Header {
     }
 }
 
-// Statistics with a row too few.
+// The number of statistics with a row too few.
 fn seven_rows<'a>(
     h: Header,
     table: &'a [u32; 64],
     trees: &'a [u32],
     locals: &'a [u64],
     bits: &'a [u64],
-) {
+) -> usize {
     let report = tells::tell(h, table, trees, locals, bits, 7);
     let totals = report.totals;
     let outcome = totals.outcome;
-    says::outcome(b"statistics with seven rows", outcome);
+    numbers::number(outcome)
 }
 
-// Each refusal in turn, on a store of which frame 0 alone is held; no call is refused with 9.
+// The number that the call to be refused with n answers; with 0 the start, with 12 the get that takes frame 0. No call is refused with 9.
+fn answer(
+    h: Header,
+    table: &[u32; 64],
+    trees: &mut [u32],
+    locals: &mut [u64],
+    bits: &mut [u64],
+    n: usize,
+) -> usize {
+    let q = request(n);
+    match n {
+        1 => short_drain(h, table, trees, locals, bits),
+        0 | 10 => numbers::number(start::start(header(h, n), table, trees, locals, bits, true)),
+        8 => numbers::number(put::put(h, table, trees, locals, bits, 1, q)),
+        9 => 9,
+        11 => seven_rows(h, table, trees, locals, bits),
+        _ => number(get::get(h, table, trees, locals, bits, name(h.frames, n), q)),
+    }
+}
+
+// The call to be refused with n, and the number that it answered; with 0 the start, with 12 the get that takes frame 0.
+fn say(n: usize, number: usize) {
+    says::call(
+        b"start|\
+        drain on a tree word too few|\
+        get of order 12|\
+        get of the frame past the last|\
+        get of frame 1 at order 1|\
+        get for class 2|\
+        get with local 2|\
+        get of frame 0, which is held|\
+        put of frame 1, which is free|\
+        no call|\
+        start with default 0|\
+        statistics with seven rows|\
+        get of frame 0|",
+        n,
+        number,
+    );
+}
+
+// The calls in turn: the start, the get that takes frame 0, those to be refused with 1 to 11.
+fn turn(i: usize) -> usize {
+    match i {
+        0 => 0,
+        1 => 12,
+        _ => i - 1,
+    }
+}
+
+// Each refusal in turn, on a store of which frame 0 alone is held.
 pub fn show(h: Header, table: &[u32; 64], trees: &mut [u32], locals: &mut [u64], bits: &mut [u64]) {
     says::say(b"\nWhat the loader does on each refusal\n");
-    let started = start::start(h, table, trees, locals, bits, true);
-    says::outcome(b"start", started);
-    let held = get(h, table, trees, locals, bits, 7);
-    says::answered(b"get of frame 0", held);
-    short_drain(h, table, trees, locals, bits);
-    gets(h, table, trees, locals, bits);
-    let q = request(8);
-    let put = put::put(h, table, trees, locals, bits, 1, q);
-    says::outcome(b"put of frame 1, which is free", put);
-    says::answered(b"no call", 9);
-    let wrong = other(h);
-    let refused = start::start(wrong, table, trees, locals, bits, true);
-    says::outcome(b"start with default 0", refused);
-    seven_rows(h, table, trees, locals, bits);
+    let mut i = 0;
+    while i < 13 {
+        let n = turn(i);
+        say(n, answer(h, table, trees, locals, bits, n));
+        i += 1;
+    }
 }

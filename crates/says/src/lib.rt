@@ -1,65 +1,90 @@
 // What the loader says: a line for each answer, the figures, and what it does on each refusal.
 use patterns::Pattern;
+use prints::Program;
 use tells::Stats;
 use ways::Granted;
 use ways::Outcome;
 use ways::Reply;
 use ways::Tally;
 
-mod actions;
-
 // Says a text.
 pub fn say(text: &[u8]) {
-    prints::text(b"boot", text);
+    prints::text(Program::Boot, text);
 }
 
-// Says a text and a number.
-fn count(text: &[u8], n: usize) {
-    say(text);
-    prints::number(b"boot", n);
+// What the loader does on the refusal with the number n.
+fn action(n: usize) {
+    prints::part(
+        Program::Boot,
+        b"|\
+        the words are damaged: it leaves them for service, shows the built-in pattern, starts anew at the next boot|\
+        an order above 11|\
+        a block past the last frame|\
+        a frame that is no multiple of its block|\
+        a class that the board does not have|\
+        a local that the class does not have|\
+        no such block is free: it gives back what it took and shows the built-in pattern|\
+        the block was not held: it reports the block and goes on with the next|\
+        cannot come after an accepted start, which is proved: it does as on Broken|\
+        the board's constants are wrong: it takes nothing and shows the built-in pattern|\
+        other than eight rows lent: the loader's own error; it goes on without the figures|",
+        n,
+    );
 }
 
-// Says the name of a number.
-fn name(n: usize) {
-    let mut text = [0u8; 16];
-    let to = names::name(&mut text, 0, n);
-    if to <= 16 {
-        say(&text[0..to]);
+// What it does on an error of its own, which are those from 2 to 6.
+fn own_error(n: usize) {
+    if n < 2 {
+        return;
+    }
+    if n < 7 {
+        say(b": the loader's own error; it gives back what it took and shows the built-in pattern");
     }
 }
 
 // Ends a line with the name of a number, and a refusal with what the loader does.
 fn ended(n: usize) {
-    name(n);
+    prints::name(Program::Boot, n);
     if n != 0 {
         say(b"\n    ");
-        actions::action(n);
+        action(n);
+        own_error(n);
     }
     say(b"\n");
 }
 
+// A pattern's place among them.
+fn place(p: Pattern) -> usize {
+    match p {
+        Pattern::Raster => 0,
+        Pattern::FirstOverlay => 1,
+        Pattern::SecondOverlay => 2,
+    }
+}
+
 // A pattern's name.
 fn pattern(p: Pattern) {
-    match p {
-        Pattern::Raster => say(b"raster"),
-        Pattern::FirstOverlay => say(b"first overlay"),
-        Pattern::SecondOverlay => say(b"second overlay"),
-    }
+    prints::part(
+        Program::Boot,
+        b"raster|first overlay|second overlay|",
+        place(p),
+    );
 }
 
 // A call on a pattern's block.
 fn block(call: &[u8], p: Pattern, order: usize) {
     say(call);
     pattern(p);
-    count(b", order ", order);
-    say(b": ");
+    prints::form(Program::Boot, b", order %: ", [order, 0, 0, 0]);
 }
 
 // The frame and class of a get that is done.
 fn done(frame: usize, class: usize) {
-    count(b"0 Done, frame ", frame);
-    count(b", class ", class);
-    say(b"\n");
+    prints::form(
+        Program::Boot,
+        b"0 Done, frame %, class %\n",
+        [frame, class, 0, 0],
+    );
 }
 
 // The answer to a get.
@@ -80,14 +105,20 @@ pub fn gave(p: Pattern, order: usize, outcome: Outcome) {
 
 // The answer to a start or a drain.
 pub fn outcome(call: &[u8], outcome: Outcome) {
-    answered(call, numbers::number(outcome));
+    say(call);
+    answered(numbers::number(outcome));
 }
 
-// A call, and the number that it answered.
-pub fn answered(call: &[u8], n: usize) {
-    say(call);
+// The number that a call answered.
+fn answered(n: usize) {
     say(b": ");
     ended(n);
+}
+
+// The n-th of these calls, each of which ends with `|`, and the number that it answered.
+pub fn call(calls: &[u8], n: usize, number: usize) {
+    prints::part(Program::Boot, calls, n);
+    answered(number);
 }
 
 // A pattern is held whole.
@@ -104,24 +135,29 @@ pub fn built_in(p: Pattern) {
 
 // The board that a boot is on.
 pub fn board(frames: usize) {
-    count(b"\nBoot on a board of ", frames);
-    say(b" frames\n");
+    prints::form(
+        Program::Boot,
+        b"\nBoot on a board of % frames\n",
+        [frames, 0, 0, 0],
+    );
 }
 
 // A row of the statistics.
 fn row(class: usize, t: Tally) {
-    count(b"    class ", class);
-    count(b": free ", t.free);
-    count(b", alloc ", t.alloc);
-    count(b", used ", t.used);
-    say(b"\n");
+    prints::form(
+        Program::Boot,
+        b"    class %: free %, alloc %, used %\n",
+        [class, t.free, t.alloc, t.used],
+    );
 }
 
 // The totals of the statistics.
 fn totals(free: usize, trees: usize) {
-    count(b"    free frames ", free);
-    count(b", free trees ", trees);
-    say(b"\n");
+    prints::form(
+        Program::Boot,
+        b"    free frames %, free trees %\n",
+        [free, trees, 0, 0],
+    );
 }
 
 // Whether all frames are free.
@@ -136,8 +172,8 @@ fn all_free(free: usize, frames: usize) {
 // The answer to statistics on a board of so many frames, with the rows of its two classes.
 pub fn figures(frames: usize, report: Stats) {
     let t = report.totals;
-    let outcome = t.outcome;
-    answered(b"statistics", numbers::number(outcome));
+    let o = t.outcome;
+    outcome(b"statistics", o);
     if report.done {
         let rows = report.rows;
         totals(t.free, t.trees);

@@ -1,6 +1,5 @@
 // The runner's store: what a line sets, the words that it stores, and the lengths that are lent.
 use commands::Command;
-use commands::Length;
 use commands::Setting;
 use commands::Store;
 use rules::Header;
@@ -54,22 +53,14 @@ fn with_header(held: Held, h: Header) -> Held {
     }
 }
 
-// A length lent, as it is held.
-fn held_length(n: Length) -> usize {
-    match n {
-        Length::Exact => 0,
-        Length::Of(k) => std::num::wrapping_add_usize(k, 1),
-    }
-}
-
 // The store with other lengths lent.
-fn lent(held: Held, trees: Length, locals: Length, bits: Length) -> Held {
+fn lent(held: Held, trees: usize, locals: usize, bits: usize) -> Held {
     let h = held.h;
     Held {
         h: h,
-        trees: held_length(trees),
-        locals: held_length(locals),
-        bits: held_length(bits),
+        trees: trees,
+        locals: locals,
+        bits: bits,
         rows: held.rows,
     }
 }

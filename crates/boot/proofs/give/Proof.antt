@@ -1,7 +1,7 @@
 -- `boot::give` meets its contract. Assumes nothing.
 use borrow.Author.Needs.{needs}
 use Prim.Native.Nat.{_≤_}
-use mathlib.Core.Path.{_≡_}
+use mathlib.Core.Path.{_≡_, _∙_}
 use lib.ListN.{length}
 use Rattle.boot.proofs.give.Statement.{statement}
 use Rattle.boot.proofs.give.Tie as tie
@@ -25,31 +25,39 @@ loop-less : tie.Need-loop-less Inv-loop μ-loop
 loop-less c = search needs
 
 loop-again : tie.Need-loop-again Inv-loop μ-loop
-loop-again c = search needs
+loop-again c = (search needs, c .before .before .before .loop .inv .1)
 
-mul-give-block : tie.Need-mul-give-block Inv-loop μ-loop
-mul-give-block c = search needs
+request-requires : tie.Need-request-requires Inv-loop μ-loop
+request-requires c κs = search needs
 
-array-read-give-block : tie.Need-array-read-give-block Inv-loop μ-loop
-array-read-give-block c = search needs
+mul-put : tie.Need-mul-put Inv-loop μ-loop
+mul-put c = search needs
 
-give-block-requires : tie.Need-give-block-requires Inv-loop μ-loop
-give-block-requires c κs = search needs
+array-read-put : tie.Need-array-read-put Inv-loop μ-loop
+array-read-put c = search needs
+
+put-requires : tie.Need-put-requires Inv-loop μ-loop
+put-requires c κs = search needs
+
+gave-requires : tie.Need-gave-requires Inv-loop μ-loop
+gave-requires c κs = search needs
 
 loop-less-2 : tie.Need-loop-less-2 Inv-loop μ-loop
 loop-less-2 c = search needs
 
 loop-again-2 : tie.Need-loop-again-2 Inv-loop μ-loop
-loop-again-2 c = search needs
+loop-again-2 c =
+    let i = c .before .before .before .before .before .before .before .before .before .before .before .before .before .before .before .loop .inv .1 in
+    let k = c .before .before .before .before .before .before .before .put .kept in (search needs, (k .1 .1 .0 ∙ i .0, (k .1 .1 .1 .0 ∙ i .1 .0, k .1 .1 .1 .1 .0 ∙ i .1 .1)))
 
 same-length : tie.Need-same-length Inv-loop μ-loop
-same-length c = search needs
+same-length c = c .before .loop .inv .1 .0
 
 same-length-2 : tie.Need-same-length-2 Inv-loop μ-loop
-same-length-2 c = search needs
+same-length-2 c = c .before .loop .inv .1 .1 .0
 
 same-length-3 : tie.Need-same-length-3 Inv-loop μ-loop
-same-length-3 c = search needs
+same-length-3 c = c .before .loop .inv .1 .1 .1
 
 returns : tie.Need-returns Inv-loop μ-loop
 returns c = search needs
@@ -65,9 +73,11 @@ give-spec =
     has-block-requires
     loop-less
     loop-again
-    mul-give-block
-    array-read-give-block
-    give-block-requires
+    request-requires
+    mul-put
+    array-read-put
+    put-requires
+    gave-requires
     loop-less-2
     loop-again-2
     same-length

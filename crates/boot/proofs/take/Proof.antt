@@ -39,27 +39,33 @@ loop-again c =
       search needs,
       (
         i .1 .0 ∙ above-none (c .before .before .before .before .frames .result) (c .before .before .before .loop .order) (c .before .before .loop-test .taken) (sym (c .before .has-block .ensures) ∙ not-true _ (c .if1 .taken)),
-        (i .1 .1 .0, search needs),
+        (i .1 .1 .0, i .1 .1 .1),
       ),
     )
 
-take-block-requires : tie.Need-take-block-requires Inv-loop μ-loop
-take-block-requires c κs = search needs
+request-requires : tie.Need-request-requires Inv-loop μ-loop
+request-requires c κs = search needs
 
-enum-known-block : tie.Need-enum-known-block Inv-loop μ-loop
-enum-known-block c = search needs
+get-requires : tie.Need-get-requires Inv-loop μ-loop
+get-requires c κs = search needs
+
+got-requires : tie.Need-got-requires Inv-loop μ-loop
+got-requires c κs = search needs
+
+enum-known-granted : tie.Need-enum-known-granted Inv-loop μ-loop
+enum-known-granted c = search needs
 
 enum-told : tie.Need-enum-told Inv-loop μ-loop
 enum-told c = search needs
 
 same-length : tie.Need-same-length Inv-loop μ-loop
-same-length c = search needs
+same-length c = c .before .before .before .before .before .before .before .before .before .get .kept .1 .1 .0 ∙ c .before .before .before .before .before .before .before .before .before .before .before .before .before .before .before .before .before .loop .inv .1 .1 .1 .0
 
 same-length-2 : tie.Need-same-length-2 Inv-loop μ-loop
-same-length-2 c = search needs
+same-length-2 c = c .before .before .before .before .before .before .before .before .before .get .kept .1 .1 .1 .0 ∙ c .before .before .before .before .before .before .before .before .before .before .before .before .before .before .before .before .before .loop .inv .1 .1 .1 .1 .0
 
 same-length-3 : tie.Need-same-length-3 Inv-loop μ-loop
-same-length-3 c = search needs
+same-length-3 c = c .before .before .before .before .before .before .before .before .before .get .kept .1 .1 .1 .1 .0 ∙ c .before .before .before .before .before .before .before .before .before .before .before .before .before .before .before .before .before .loop .inv .1 .1 .1 .1 .1
 
 returns : tie.Need-returns Inv-loop μ-loop
 returns c = λ h. cc
@@ -75,10 +81,10 @@ size-requires c κs = search needs
 
 add-frames : tie.Need-add-frames Inv-loop μ-loop
 add-frames c =
-    let i = c .before .before .before .before .before .before .before .before .before .before .before .before .before .before .before .before .before .loop .inv in
-    let few : framesOf (c .before .before .before .before .before .before .before .before .before .before .before .before .before .before .before .before .before .before .before .before .before .before .args .p) < 4096 = frames-few (c .before .before .before .before .before .before .before .before .before .before .before .before .before .before .before .before .before .before .before .before .before .before .args .p) in
-    let d = above-digit (c .before .before .before .before .before .before .before .before .before .before .before .before .before .before .before .before .before .before .frames .result) (c .before .before .before .before .before .before .before .before .before .before .before .before .before .before .before .before .before .loop .order) (c .before .before .before .before .before .before .before .before .before .before .before .before .before .before .before .before .loop-test .taken) (sym (c .before .before .before .before .before .before .before .before .before .before .before .before .before .before .before .has-block .ensures) ∙ not-false _ (c .before .before .before .before .before .before .before .before .before .before .before .before .before .before .if1 .left)) in
-    let l = above-le (c .before .before .before .before .before .before .before .before .before .before .before .before .before .before .before .before .before .before .frames .result) (c .before .before .before .before .before .before .before .before .before .before .before .before .before .before .before .before .before .loop .order - 1) in
+    let i = c .before .before .before .before .before .before .before .before .before .before .before .before .before .before .before .before .before .before .before .loop .inv in
+    let few : framesOf (c .before .before .before .before .before .before .before .before .before .before .before .before .before .before .before .before .before .before .before .before .before .before .before .before .args .p) < 4096 = frames-few (c .before .before .before .before .before .before .before .before .before .before .before .before .before .before .before .before .before .before .before .before .before .before .before .before .args .p) in
+    let d = above-digit (c .before .before .before .before .before .before .before .before .before .before .before .before .before .before .before .before .before .before .before .before .frames .result) (c .before .before .before .before .before .before .before .before .before .before .before .before .before .before .before .before .before .before .before .loop .order) (c .before .before .before .before .before .before .before .before .before .before .before .before .before .before .before .before .before .before .loop-test .taken) (sym (c .before .before .before .before .before .before .before .before .before .before .before .before .before .before .before .before .before .has-block .ensures) ∙ not-false _ (c .before .before .before .before .before .before .before .before .before .before .before .before .before .before .before .before .if1 .left)) in
+    let l = above-le (c .before .before .before .before .before .before .before .before .before .before .before .before .before .before .before .before .before .before .before .before .frames .result) (c .before .before .before .before .before .before .before .before .before .before .before .before .before .before .before .before .before .before .before .loop .order - 1) in
     omega (arith, c .size .ensures, i .1 .0, i .1 .1 .0)
 
 loop-less-2 : tie.Need-loop-less-2 Inv-loop μ-loop
@@ -86,18 +92,19 @@ loop-less-2 c = search needs
 
 loop-again-2 : tie.Need-loop-again-2 Inv-loop μ-loop
 loop-again-2 c =
-    let i = c .before .before .before .before .before .before .before .before .before .before .before .before .before .before .before .before .before .loop .inv in
-    let d = above-digit (c .before .before .before .before .before .before .before .before .before .before .before .before .before .before .before .before .before .before .frames .result) (c .before .before .before .before .before .before .before .before .before .before .before .before .before .before .before .before .before .loop .order) (c .before .before .before .before .before .before .before .before .before .before .before .before .before .before .before .before .loop-test .taken) (sym (c .before .before .before .before .before .before .before .before .before .before .before .before .before .before .before .has-block .ensures) ∙ not-false _ (c .before .before .before .before .before .before .before .before .before .before .before .before .before .before .if1 .left)) in
-    (search needs, (rw (← d, ← i .1 .0, c .size .ensures), (i .1 .1 .0, search needs)))
+    let i = c .before .before .before .before .before .before .before .before .before .before .before .before .before .before .before .before .before .before .before .loop .inv in
+    let d = above-digit (c .before .before .before .before .before .before .before .before .before .before .before .before .before .before .before .before .before .before .before .before .frames .result) (c .before .before .before .before .before .before .before .before .before .before .before .before .before .before .before .before .before .before .before .loop .order) (c .before .before .before .before .before .before .before .before .before .before .before .before .before .before .before .before .before .before .loop-test .taken) (sym (c .before .before .before .before .before .before .before .before .before .before .before .before .before .before .before .before .before .has-block .ensures) ∙ not-false _ (c .before .before .before .before .before .before .before .before .before .before .before .before .before .before .before .before .if1 .left)) in
+    let k = c .before .before .before .before .before .before .before .before .before .before .before .get .kept in
+    (search needs, (rw (← d, ← i .1 .0, c .size .ensures), (i .1 .1 .0, (k .1 .1 .0 ∙ i .1 .1 .1 .0, (k .1 .1 .1 .0 ∙ i .1 .1 .1 .1 .0, k .1 .1 .1 .1 .0 ∙ i .1 .1 .1 .1 .1)))))
 
 same-length-4 : tie.Need-same-length-4 Inv-loop μ-loop
-same-length-4 c = search needs
+same-length-4 c = c .before .loop .inv .1 .1 .1 .0
 
 same-length-5 : tie.Need-same-length-5 Inv-loop μ-loop
-same-length-5 c = search needs
+same-length-5 c = c .before .loop .inv .1 .1 .1 .1 .0
 
 same-length-6 : tie.Need-same-length-6 Inv-loop μ-loop
-same-length-6 c = search needs
+same-length-6 c = c .before .loop .inv .1 .1 .1 .1 .1
 
 returns-2 : tie.Need-returns-2 Inv-loop μ-loop
 returns-2 c =
@@ -118,8 +125,10 @@ take-spec =
     has-block-requires
     loop-less
     loop-again
-    take-block-requires
-    enum-known-block
+    request-requires
+    get-requires
+    got-requires
+    enum-known-granted
     enum-told
     same-length
     same-length-2

@@ -1,109 +1,74 @@
 -- `refusals::show` meets its contract. Assumes nothing.
 use borrow.Author.Needs.{needs}
-use mathlib.Core.Path.{_∙_}
+use native.Mathlib.Omega.{arith}
+use Prim.Native.Nat.{_-_}
+use mathlib.Core.Path.{_≡_, refl, _∙_}
+use lib.ListN.{length}
 use Rattle.refusals.proofs.show.Statement.{statement}
 use Rattle.refusals.proofs.show.Tie as tie
 
-slice-aggregate-say : tie.Need-slice-aggregate-say
+abbrev Inv-loop : tie.InvT-loop
+Inv-loop h table trees₀ locals₀ bits₀ i₀ trees locals bits i = (length trees ≡ length trees₀) × ((length locals ≡ length locals₀) × (length bits ≡ length bits₀))
+
+abbrev μ-loop : tie.MeasureT-loop
+μ-loop h table trees₀ locals₀ bits₀ i₀ trees locals bits i = 13 - i
+
+slice-aggregate-say : tie.Need-slice-aggregate-say Inv-loop μ-loop
 slice-aggregate-say c = search needs
 
-say-requires : tie.Need-say-requires
+say-requires : tie.Need-say-requires Inv-loop μ-loop
 say-requires c κs = search needs
 
-start-requires : tie.Need-start-requires
-start-requires c κs = search needs
+loop-holds : tie.Need-loop-holds Inv-loop μ-loop
+loop-holds c = (refl, (refl, refl))
 
-slice-aggregate-outcome : tie.Need-slice-aggregate-outcome
-slice-aggregate-outcome c = search needs
+turn-requires : tie.Need-turn-requires Inv-loop μ-loop
+turn-requires c κs = search needs
 
-outcome-requires : tie.Need-outcome-requires
-outcome-requires c κs = search needs
+answer-requires : tie.Need-answer-requires Inv-loop μ-loop
+answer-requires c κs = search needs
 
-get-requires : tie.Need-get-requires
-get-requires c κs = search needs
+say-requires-2 : tie.Need-say-requires-2 Inv-loop μ-loop
+say-requires-2 c κs = search needs
 
-slice-aggregate-answered : tie.Need-slice-aggregate-answered
-slice-aggregate-answered c = search needs
+add-i : tie.Need-add-i Inv-loop μ-loop
+add-i c = search needs
 
-answered-requires : tie.Need-answered-requires
-answered-requires c κs = search needs
+loop-less : tie.Need-loop-less Inv-loop μ-loop
+loop-less c = search needs
 
-short-drain-requires : tie.Need-short-drain-requires
-short-drain-requires c κs = search needs
+loop-again : tie.Need-loop-again Inv-loop μ-loop
+loop-again c =
+    let i = c .before .before .before .before .before .before .before .before .before .before .before .before .before .loop .inv in
+    let k = c .before .before .before .before .before .before .before .answer .kept in (k .1 .1 .0 ∙ i .0, (k .1 .1 .1 .0 ∙ i .1 .0, k .1 .1 .1 .1 .0 ∙ i .1 .1))
 
-gets-requires : tie.Need-gets-requires
-gets-requires c κs = search needs
+same-length : tie.Need-same-length Inv-loop μ-loop
+same-length c = c .before .loop .inv .0
 
-request-requires : tie.Need-request-requires
-request-requires c κs = search needs
+same-length-2 : tie.Need-same-length-2 Inv-loop μ-loop
+same-length-2 c = c .before .loop .inv .1 .0
 
-put-requires : tie.Need-put-requires
-put-requires c κs = search needs
+same-length-3 : tie.Need-same-length-3 Inv-loop μ-loop
+same-length-3 c = c .before .loop .inv .1 .1
 
-slice-aggregate-outcome-2 : tie.Need-slice-aggregate-outcome-2
-slice-aggregate-outcome-2 c = search needs
-
-outcome-requires-2 : tie.Need-outcome-requires-2
-outcome-requires-2 c κs = search needs
-
-slice-aggregate-answered-2 : tie.Need-slice-aggregate-answered-2
-slice-aggregate-answered-2 c = search needs
-
-answered-requires-2 : tie.Need-answered-requires-2
-answered-requires-2 c κs = search needs
-
-other-requires : tie.Need-other-requires
-other-requires c κs = search needs
-
-start-requires-2 : tie.Need-start-requires-2
-start-requires-2 c κs = search needs
-
-slice-aggregate-outcome-3 : tie.Need-slice-aggregate-outcome-3
-slice-aggregate-outcome-3 c = search needs
-
-outcome-requires-3 : tie.Need-outcome-requires-3
-outcome-requires-3 c κs = search needs
-
-seven-rows-requires : tie.Need-seven-rows-requires
-seven-rows-requires c κs = search needs
-
-same-length : tie.Need-same-length
-same-length c = c .before .before .before .before .before .before .before .before .before .before .before .before .start2 .kept .1 .1 .0 ∙ c .before .before .before .before .before .before .before .before .before .before .before .before .before .before .before .before .before .before .before .before .before .before .before .before .before .before .before .put .kept .1 .1 .0 ∙ c .before .before .before .before .before .before .before .before .before .before .before .before .before .before .before .before .before .before .before .before .before .before .before .before .before .before .before .before .before .before .before .before .before .before .before .before .before .before .gets .kept .1 .1 .0 ∙ c .before .before .before .before .before .before .before .before .before .before .before .before .before .before .before .before .before .before .before .before .before .before .before .before .before .before .before .before .before .before .before .before .before .before .before .before .before .before .before .before .before .before .before .before .before .before .before .before .short-drain .kept .1 .1 .0 ∙ c .before .before .before .before .before .before .before .before .before .before .before .before .before .before .before .before .before .before .before .before .before .before .before .before .before .before .before .before .before .before .before .before .before .before .before .before .before .before .before .before .before .before .before .before .before .before .before .before .before .before .before .before .before .before .before .before .before .before .before .before .get .kept .1 .1 .0 ∙ c .before .before .before .before .before .before .before .before .before .before .before .before .before .before .before .before .before .before .before .before .before .before .before .before .before .before .before .before .before .before .before .before .before .before .before .before .before .before .before .before .before .before .before .before .before .before .before .before .before .before .before .before .before .before .before .before .before .before .before .before .before .before .before .before .before .before .before .before .before .before .before .before .start .kept .1 .1 .0
-
-same-length-2 : tie.Need-same-length-2
-same-length-2 c = c .before .before .before .before .before .before .before .before .before .before .before .before .start2 .kept .1 .1 .1 .0 ∙ c .before .before .before .before .before .before .before .before .before .before .before .before .before .before .before .before .before .before .before .before .before .before .before .before .before .before .before .put .kept .1 .1 .1 .0 ∙ c .before .before .before .before .before .before .before .before .before .before .before .before .before .before .before .before .before .before .before .before .before .before .before .before .before .before .before .before .before .before .before .before .before .before .before .before .before .before .gets .kept .1 .1 .1 .0 ∙ c .before .before .before .before .before .before .before .before .before .before .before .before .before .before .before .before .before .before .before .before .before .before .before .before .before .before .before .before .before .before .before .before .before .before .before .before .before .before .before .before .before .before .before .before .before .before .before .before .short-drain .kept .1 .1 .1 .0 ∙ c .before .before .before .before .before .before .before .before .before .before .before .before .before .before .before .before .before .before .before .before .before .before .before .before .before .before .before .before .before .before .before .before .before .before .before .before .before .before .before .before .before .before .before .before .before .before .before .before .before .before .before .before .before .before .before .before .before .before .before .before .get .kept .1 .1 .1 .0 ∙ c .before .before .before .before .before .before .before .before .before .before .before .before .before .before .before .before .before .before .before .before .before .before .before .before .before .before .before .before .before .before .before .before .before .before .before .before .before .before .before .before .before .before .before .before .before .before .before .before .before .before .before .before .before .before .before .before .before .before .before .before .before .before .before .before .before .before .before .before .before .before .before .before .start .kept .1 .1 .1 .0
-
-same-length-3 : tie.Need-same-length-3
-same-length-3 c = c .before .before .before .before .before .before .before .before .before .before .before .before .start2 .kept .1 .1 .1 .1 .0 ∙ c .before .before .before .before .before .before .before .before .before .before .before .before .before .before .before .before .before .before .before .before .before .before .before .before .before .before .before .put .kept .1 .1 .1 .1 .0 ∙ c .before .before .before .before .before .before .before .before .before .before .before .before .before .before .before .before .before .before .before .before .before .before .before .before .before .before .before .before .before .before .before .before .before .before .before .before .before .before .gets .kept .1 .1 .1 .1 .0 ∙ c .before .before .before .before .before .before .before .before .before .before .before .before .before .before .before .before .before .before .before .before .before .before .before .before .before .before .before .before .before .before .before .before .before .before .before .before .before .before .before .before .before .before .before .before .before .before .before .before .short-drain .kept .1 .1 .1 .1 .0 ∙ c .before .before .before .before .before .before .before .before .before .before .before .before .before .before .before .before .before .before .before .before .before .before .before .before .before .before .before .before .before .before .before .before .before .before .before .before .before .before .before .before .before .before .before .before .before .before .before .before .before .before .before .before .before .before .before .before .before .before .before .before .get .kept .1 .1 .1 .1 .0 ∙ c .before .before .before .before .before .before .before .before .before .before .before .before .before .before .before .before .before .before .before .before .before .before .before .before .before .before .before .before .before .before .before .before .before .before .before .before .before .before .before .before .before .before .before .before .before .before .before .before .before .before .before .before .before .before .before .before .before .before .before .before .before .before .before .before .before .before .before .before .before .before .before .before .start .kept .1 .1 .1 .1 .0
-
-returns : tie.Need-returns
+returns : tie.Need-returns Inv-loop μ-loop
 returns c = search needs
 
 pub show-spec : {M : Type 1} → statement M
 show-spec =
     tie.close
     (tie.spec
+    Inv-loop
+    μ-loop
     slice-aggregate-say
     say-requires
-    start-requires
-    slice-aggregate-outcome
-    outcome-requires
-    get-requires
-    slice-aggregate-answered
-    answered-requires
-    short-drain-requires
-    gets-requires
-    request-requires
-    put-requires
-    slice-aggregate-outcome-2
-    outcome-requires-2
-    slice-aggregate-answered-2
-    answered-requires-2
-    other-requires
-    start-requires-2
-    slice-aggregate-outcome-3
-    outcome-requires-3
-    seven-rows-requires
+    loop-holds
+    turn-requires
+    answer-requires
+    say-requires-2
+    add-i
+    loop-less
+    loop-again
     same-length
     same-length-2
     same-length-3
