@@ -1,118 +1,13 @@
 // The boot loader: the firmware's first caller, and the example of how the library is called. It starts the store, takes the frames of the
-// boot patterns, gives them back, drains, and reports each answer. No refusal is passed over: the crate `says` has what the loader does
-// on each, the crate `refusals` a call for each.
+// boot patterns (crate `shows`), gives them back, drains, and reports each answer. No refusal is passed over: the crate `says` has what the
+// loader does on each, the crate `refusals` a call for each.
 use patterns::Pattern;
 use rules::Header;
-use rules::Name;
-use ways::Granted;
 use ways::Outcome;
 ghost use mathlib.Core.Path.{_≡_};
-ghost use mathlib.Core.Bool.{true};
 ghost use Rattle.rules.specs.Words.{config};
 ghost use Rattle.ways.specs.Calls.{outcomeOf};
 ghost use Rattle.patterns.specs.Board.{Ready};
-ghost use Rattle.patterns.specs.Patterns.{framesOf};
-
-// What is held of a pattern: whether it is whole, and how many frames. The binary digits of that number are the orders of the blocks; the block
-// of an order begins at first[order].
-struct Held {
-    whole: bool,
-    frames: usize,
-    first: [usize; 12],
-}
-
-// Takes a pattern's blocks, the largest first, up to the first refusal.
-fn take(
-    h: Header,
-    table: &[u32; 64],
-    trees: &mut [u32],
-    locals: &mut [u64],
-    bits: &mut [u64],
-    p: Pattern,
-) -> Held
-    ensures { λ r. ⌜ (r .whole ≡ true → r .frames ≡ framesOf p) ⌝ }
-{
-    let wanted = patterns::frames(p);
-    let mut frames = 0;
-    let mut first = [0usize; 12];
-    let mut order = 12;
-    while order > 0 {
-        order -= 1;
-        if !patterns::has_block(wanted, order) {
-            continue;
-        }
-        let q = patterns::request(p, order);
-        let reply = get::get(h, table, trees, locals, bits, Name::Any, q);
-        says::got(p, order, reply);
-        let granted = reply.granted;
-        let Granted::Done { frame, class: _ } = granted else {
-            return Held {
-                whole: false,
-                frames: frames,
-                first: first,
-            };
-        };
-        first[order] = frame;
-        frames += sizes::size(order);
-    }
-    Held {
-        whole: true,
-        frames: frames,
-        first: first,
-    }
-}
-
-// Gives back the blocks that are held of a pattern, with the class and local that they were taken with.
-fn give(
-    h: Header,
-    table: &[u32; 64],
-    trees: &mut [u32],
-    locals: &mut [u64],
-    bits: &mut [u64],
-    p: Pattern,
-    held: Held,
-) {
-    let frames = held.frames;
-    let first = held.first;
-    let mut order = 12;
-    while order > 0 {
-        order -= 1;
-        if !patterns::has_block(frames, order) {
-            continue;
-        }
-        let q = patterns::request(p, order);
-        let outcome = put::put(h, table, trees, locals, bits, first[order], q);
-        says::gave(p, order, outcome);
-    }
-}
-
-// Nothing is held.
-fn nothing() -> Held {
-    Held {
-        whole: false,
-        frames: 0,
-        first: [0; 12],
-    }
-}
-
-// A pattern is held whole; or what was taken is given back, and the dim pattern that is built in is shown in its place.
-fn show(
-    h: Header,
-    table: &[u32; 64],
-    trees: &mut [u32],
-    locals: &mut [u64],
-    bits: &mut [u64],
-    p: Pattern,
-) -> Held {
-    let held = take(h, table, trees, locals, bits, p);
-    if held.whole {
-        says::shown(p);
-        return held;
-    }
-    give(h, table, trees, locals, bits, p, held);
-    says::built_in(p);
-    nothing()
-}
 
 // The figures of the store.
 fn figures<'a>(
@@ -137,16 +32,16 @@ fn pattern(n: usize) -> Pattern {
 
 // The calls after an accepted start: the patterns are taken and given back, and after a drain all frames are free again.
 fn serve(h: Header, table: &[u32; 64], trees: &mut [u32], locals: &mut [u64], bits: &mut [u64]) {
-    let mut held = [nothing(); 3];
+    let mut held = [shows::nothing(); 3];
     let mut n = 0;
     while n < 3 {
-        held[n] = show(h, table, trees, locals, bits, pattern(n));
+        held[n] = shows::show(h, table, trees, locals, bits, pattern(n));
         n += 1;
     }
     figures(h, table, trees, locals, bits);
     let mut n = 0;
     while n < 3 {
-        give(h, table, trees, locals, bits, pattern(n), held[n]);
+        shows::give(h, table, trees, locals, bits, pattern(n), held[n]);
         n += 1;
     }
     let drained = drain::drain(h, table, trees, locals, bits);

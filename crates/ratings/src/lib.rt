@@ -9,7 +9,7 @@ ghost use Rattle.ways.specs.Walk.{ratedIn};
 ghost use Rattle.ratings.specs.Rating.{ratingOf};
 
 // The rating of a policy's answer in a walk: Invalid 0, Steal 1, Demote 2, Match r is 3 + r.
-pub fn rated_in(walk: Walk, full: bool, kind: Kind) -> usize
+fn rated_in(walk: Walk, full: bool, kind: Kind) -> usize
     requires { ⌜ ratingOf kind ≤ 255 ⌝ }
     ensures { λ r. ⌜ (r ≡ ratedIn walk full kind) × (r ≤ 258) ⌝ }
 {

@@ -43,7 +43,7 @@ fn spaces(out: &mut [u8], at: usize, n: usize) -> usize
 }
 
 // A number in decimal digits.
-pub fn put_decimal(out: &mut [u8], at: usize, n: u64) -> usize
+fn put_decimal(out: &mut [u8], at: usize, n: u64) -> usize
     ensures { λ r. ⌜ text (now (out .exit)) r ≡ write (text (now (out .entry)) at) (decimal n) ⌝ }
 {
     let mut digits = [0u8; 20];

@@ -1,4 +1,4 @@
--- `boot::take` meets its contract. Assumes nothing.
+-- `shows::take` meets its contract. Assumes nothing.
 use borrow.Author.Needs.{needs}
 use native.Mathlib.Omega.{arith}
 use Prim.Native.Nat.{_-_, _≤_, _<_}
@@ -6,8 +6,8 @@ use mathlib.Core.Path.{_≡_, sym, _∙_}
 use borrow.Author.Tests.{not-true, not-false}
 use lib.ListN.{length}
 use Rattle.patterns.specs.Patterns.{framesOf, frames-few, above, above-all, above-zero, above-le, above-digit, above-none}
-use Rattle.boot.proofs.take.Statement.{statement}
-use Rattle.boot.proofs.take.Tie as tie
+use Rattle.shows.proofs.take.Statement.{statement}
+use Rattle.shows.proofs.take.Tie as tie
 
 abbrev Inv-loop : tie.InvT-loop
 Inv-loop h table trees₀ locals₀ bits₀ p wanted frames₀ first₀ order₀ trees locals bits frames first order = (order ≤ 12) × ((frames ≡ above wanted order) × ((wanted ≡ framesOf p) × ((length trees ≡ length trees₀) × ((length locals ≡ length locals₀) × (length bits ≡ length bits₀)))))

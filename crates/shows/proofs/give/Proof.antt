@@ -1,10 +1,10 @@
--- `boot::give` meets its contract. Assumes nothing.
+-- `shows::give` meets its contract. Assumes nothing.
 use borrow.Author.Needs.{needs}
 use Prim.Native.Nat.{_≤_}
 use mathlib.Core.Path.{_≡_, _∙_}
 use lib.ListN.{length}
-use Rattle.boot.proofs.give.Statement.{statement}
-use Rattle.boot.proofs.give.Tie as tie
+use Rattle.shows.proofs.give.Statement.{statement}
+use Rattle.shows.proofs.give.Tie as tie
 
 abbrev Inv-loop : tie.InvT-loop
 Inv-loop h table trees₀ locals₀ bits₀ p frames first order₀ trees locals bits order = (order ≤ 12) × ((length trees ≡ length trees₀) × ((length locals ≡ length locals₀) × (length bits ≡ length bits₀)))
