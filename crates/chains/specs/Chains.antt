@@ -76,7 +76,7 @@ abbrev pub stepOf : Call → Step
 stepOf (gets name q r) = Demand.gets name q (record { granted = grantedFrom (r .number) (r .frame) (r .class); looks = r .looks; tries = r .tries })
 stepOf (puts f q r) = Demand.puts f q (outcomeFrom r)
 stepOf (drains r) = Demand.drains (outcomeFrom r)
-stepOf (reports n r) = Demand.counts (emptyRows n) (totalsFrom r) (rowsFrom n r)
+stepOf (reports n r) = Demand.reports (emptyRows n) (totalsFrom r) (rowsFrom n r)
 stepOf (starts h pairs free r) = Demand.starts h pairs free (outcomeFrom r)
 
 -- all of them
