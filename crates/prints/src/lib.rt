@@ -16,10 +16,13 @@ fn tell(program: Program, written: bool) {
         return;
     }
     match program {
-        Program::Runner => io::write_all(STDERR_FILENO, b"runner"),
-        Program::Boot => io::write_all(STDERR_FILENO, b"boot"),
+        Program::Runner => {
+            io::write_all(STDERR_FILENO, b"runner");
+        }
+        Program::Boot => {
+            io::write_all(STDERR_FILENO, b"boot");
+        }
     }
-    ;
     io::write_all(STDERR_FILENO, b": standard output cannot be written\n");
 }
 

@@ -1,8 +1,8 @@
--- `get::frame_of` meets its contract. Assumes nothing.
+-- `grants::frame_of` meets its contract. Assumes nothing.
 use Rattle.ways.specs.Calls.{frameOf}
 use borrow.Author.Needs.{needs}
-use Rattle.get.proofs.frame_of.Statement.{statement}
-use Rattle.get.proofs.frame_of.Tie as tie
+use Rattle.grants.proofs.frame_of.Statement.{statement}
+use Rattle.grants.proofs.frame_of.Tie as tie
 
 enum-told : tie.Need-enum-told
 enum-told c = search needs

@@ -1,8 +1,8 @@
--- `get::reply` meets its contract. Assumes nothing.
+-- `grants::reply` meets its contract. Assumes nothing.
 use Rattle.ways.specs.Calls.{close, tellGet, numberOf}
 use borrow.Author.Needs.{needs}
-use Rattle.get.proofs.reply.Statement.{statement}
-use Rattle.get.proofs.reply.Tie as tie
+use Rattle.grants.proofs.reply.Statement.{statement}
+use Rattle.grants.proofs.reply.Tie as tie
 
 enum-known-got : tie.Need-enum-known-got
 enum-known-got c = search needs

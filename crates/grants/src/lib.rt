@@ -1,0 +1,66 @@
+// How a get is answered, and the frame that it is tested with.
+use rules::Name;
+use ways::Got;
+use ways::Granted;
+use ways::Refusal;
+use ways::Reply;
+use ways::Routed;
+ghost use mathlib.Core.Path.{_≡_};
+ghost use mathlib.Core.List.{List};
+ghost use Prim.Native.Nat.{ℕ};
+ghost use Rattle.ways.specs.declared.Granted.the-variants as Granted;
+ghost use Rattle.ways.specs.State.{ended};
+ghost use Rattle.ways.specs.Calls.{toldGet, close, frameOf};
+
+// A refused get names no frame and no class.
+pub fn refused(x: Refusal) -> Reply
+    ensures { λ r. ⌜ r ≡ record { granted = Granted.Refused x; looks = 0; tries = 0 } ⌝ }
+{
+    Reply {
+        granted: Granted::Refused(x),
+        looks: 0,
+        tries: 0,
+    }
+}
+
+// How a get's routes are answered: Done, Memory where every one came back empty, Stuck.
+pub fn reply(r: Routed) -> Reply
+    ensures { λ a. ⌜ ((t l b : List ℕ) → toldGet a t l b ≡ close (ended r t l b)) ⌝ }
+{
+    let got = r.got;
+    match got {
+        Got::Done { frame, class } => Reply {
+            granted: Granted::Done {
+                frame: frame,
+                class: class,
+            },
+            looks: r.looks,
+            tries: r.tries,
+        },
+        Got::Missed => Reply {
+            granted: Granted::Refused(Refusal::Memory),
+            looks: r.looks,
+            tries: r.tries,
+        },
+        Got::MissedAt(_) => Reply {
+            granted: Granted::Refused(Refusal::Memory),
+            looks: r.looks,
+            tries: r.tries,
+        },
+        Got::Stuck => Reply {
+            granted: Granted::Refused(Refusal::Stuck),
+            looks: r.looks,
+            tries: r.tries,
+        },
+    }
+}
+
+// The frame that a get names, 0 if none.
+pub fn frame_of(name: Name) -> usize
+    ensures { λ r. ⌜ r ≡ frameOf name ⌝ }
+{
+    match name {
+        Name::Any => 0,
+        Name::Frame(f) => f,
+    }
+}
