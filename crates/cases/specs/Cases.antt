@@ -21,7 +21,22 @@ use Rattle.ways.specs.Search.{near, roundDown, roundedStart, searchFar, searchF
 use Rattle.ways.specs.Get.{lastRoutes, getAt, startTree, orFrom, getReserving, searchTrees, getAny, routes}
 use Rattle.ways.specs.Standing.{lengthsExact, entryStands, holderStands, localStands, classStands, apart, apartBefore, reservedCount, presentCount, pastHeld, standing}
 use Rattle.ways.specs.Calls.{numberOf, outcomeOf, refuseLocal, refuseClass, refusal, unless, ifStanding, close, frameOf, get, putTo, onGiven, put, drainLocals, onDrained, drainClasses, closeDrain, drain, freeAtStart, freshTree, freshWord, freshState, start}
-use Rattle.ways.specs.Examples.{match255, demote, steal, tableT, tableT5, asks, gives, startsHeld, drains, stands, number, tree, local, Example, answered, given, examples, further, heldWords, combed, anyone, local0, all5, counted}
+use Rattle.ways.specs.Examples.{match255, demote, steal, tableT, asks, gives, startsHeld, drains, stands, number, tree, local, Example, answered, given, examples, further, heldWords, anyone, local0, all5, counted}
+
+-- table T with a Match of 5 in place of 255 for class 0
+abbrev tableT5 : ℕ → Config
+tableT5 f =
+    record {
+      order = 11;
+      frames = f;
+      default = 1;
+      places = 2 ∷ 2 ∷ replicate 6 0;
+      pairs = 0x05000003 ∷ demote ∷ replicate 6 0 ++ steal ∷ match255 ∷ replicate 54 0;
+    }
+
+-- words in which every eighth frame is held: 1,792 frames of a tree are free, and no aligned block of eight
+abbrev combed : ℕ → List ℕ
+combed n = replicate n 0x0101010101010101
 
 -- three classes with a local each, default 1: (0,0) as given, (1,1), (2,2) Match 255; (0,1) Demote; (0,2), (1,0) Steal
 abbrev pub three : ℕ → ℕ → Config

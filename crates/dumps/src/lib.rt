@@ -12,17 +12,12 @@ fn dump_word(name: &[u8], i: usize, w: u64, out: &mut [u8], at: usize) -> usize 
     texts::put_byte(out, to, b'\n')
 }
 
-// A tree word as a number.
-fn wide(x: u32) -> u64 {
-    x as u64
-}
-
 // The tree words that are not 0.
 fn dump_trees(trees: &[u32], out: &mut [u8], at: usize) -> usize {
     let mut to = at;
     let mut i = 0;
     while i < trees.len() {
-        to = dump_word(b"entry ", i, wide(trees[i]), out, to);
+        to = dump_word(b"entry ", i, sums::wide(trees[i]), out, to);
         i += 1;
     }
     to

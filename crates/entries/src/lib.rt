@@ -1,4 +1,4 @@
-// What the rules do to a single entry but for what it yields: put, unreserve, sync. By value: no buffer but the table.
+// What the rules do to a single entry where no class requests it: put, unreserve, sync. By value: no buffer but the table.
 use rules::Header;
 use rules::Kind;
 use rules::Took;

@@ -1,4 +1,4 @@
-// What an entry yields to a requested class, by value: a steal, a reservation or a steal.
+// What an entry yields to a requested class, by value: steal; reserve or steal.
 use rules::Header;
 use rules::Kind;
 use rules::Taken;

@@ -1,4 +1,4 @@
-// The words of a line: names, numbers and `-`; and the lines of a buffer. No function asks more of its arguments than their types.
+// The words of a line: names, numbers and `-`; and the lines of a buffer. No exported function asks more of its arguments than their types.
 mod buffer;
 
 pub use buffer::keep;

@@ -1,4 +1,4 @@
-// A local of the lent words is replaced: its row, the whole of it, by an absent one. Total: a local that is not there reads as absent, and a store to it does nothing.
+// A local of the lent words is changed as a whole: another row, another local, absent. Total: a local that is not there reads as absent, and a store to it does nothing.
 use rules::Local;
 ghost use mathlib.Core.Path.{_≡_};
 ghost use Prim.Native.Nat.{_^_, _<_};

@@ -22,7 +22,7 @@ fn start(s: &[u8], at: usize) -> Command {
     }
 }
 
-// A command of one word, by its name's place.
+// A command of one word, by its name's place: drain 13, stats 14, dump 15, sum 16, look 17.
 fn alone(n: usize) -> Command {
     match n {
         13 => Command::Call(Call::Drain),
@@ -34,7 +34,7 @@ fn alone(n: usize) -> Command {
     }
 }
 
-// A command and the words after its name, by its name's place.
+// A command and the words after its name, by its name's place among the names, as `parse` lists them: start 0, get 1, put 2 and so on.
 fn placed(n: usize, w: Args) -> Command {
     match n {
         1 => commands::get(w),

@@ -45,7 +45,7 @@ fn may(demote: bool, kind: Kind) -> bool
     }
 }
 
-// The local of the class k that pays for a request of another class.
+// The local of the class k that pays for a request of the class `class`, or nobody.
 fn payer_at(
     h: Header,
     table: &[u32; 64],

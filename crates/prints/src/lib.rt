@@ -1,4 +1,4 @@
-// Bytes and numbers to standard output; where it cannot be written, that is told on standard error.
+// Texts, numbers and the names of outcomes to standard output; where it cannot be written, that is told on standard error.
 use libc::STDERR_FILENO;
 use libc::STDOUT_FILENO;
 ghost use Prim.Native.Nat.{_≤_};
@@ -39,7 +39,7 @@ pub fn start(program: Program, bytes: &[u8], to: usize) {
 }
 
 // Writes a number, in decimal digits.
-pub fn number(program: Program, n: usize) {
+fn number(program: Program, n: usize) {
     tell(program, io::print_decimal(STDOUT_FILENO, n as u64));
 }
 
@@ -65,7 +65,7 @@ fn place(bytes: &[u8], from: usize, sign: u8) -> usize
     i
 }
 
-// Writes a text, at each `%` the next of the numbers.
+// Writes a text, at each `%` the next of the four numbers; a fifth begins again with the first.
 pub fn form(program: Program, bytes: &[u8], numbers: [usize; 4]) {
     let mut from = 0;
     let mut n = 0;

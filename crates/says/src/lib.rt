@@ -12,7 +12,7 @@ pub fn say(text: &[u8]) {
     prints::text(Program::Boot, text);
 }
 
-// What the loader does on the refusal with the number n.
+// What the loader does on the refusal with the number n, the n-th part; that of 0, Done, is empty.
 fn action(n: usize) {
     prints::part(
         Program::Boot,

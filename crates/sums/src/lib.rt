@@ -36,7 +36,7 @@ fn with_word(h: u64, w: u64, n: usize) -> u64
 }
 
 // A tree word as a number.
-fn wide(x: u32) -> u64
+pub fn wide(x: u32) -> u64
     ensures { λ r. ⌜ r ≡ x ⌝ }
 {
     x as u64

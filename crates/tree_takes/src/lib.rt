@@ -1,4 +1,4 @@
-// Frames taken from an entry of the lent tree words: a steal, a reservation or a steal. Total: an entry that is not there reads 0, and a store to it does nothing.
+// Frames taken from an entry of the lent tree words: steal; reserve or steal. Total: an entry that is not there reads 0, and a store to it does nothing.
 use rules::Header;
 use rules::Taken;
 use rules::Took;

@@ -1,6 +1,7 @@
 -- 01, Bench examples: the table of E1 to E12, and further cases that refuse wrong definitions which E1 to E12 let pass, with figures that the Rust
--- gave, or that 01's text gives where the Rust has no answer; both by computing the definitions behind the test of the whole state, which is nearly
--- all of a call's work. Crate `cases` has both, and more, with that test. Assumes nothing.
+-- gave, or that 01's text gives where the Rust has no answer. The gets of both, and the start before them, are computed behind their tests, since the
+-- state test is nearly all of a call's work; two Broken states and the statistics are computed with it. Crate `cases` has E1 to E12 and the further
+-- cases with that test, and more. Assumes nothing.
 use mathlib.Core.Path.{_≡_, refl}
 use mathlib.Core.Bool.{true, false}
 use mathlib.Core.List.{List, [], _∷_, _++_}
@@ -122,7 +123,7 @@ abbrev pub answeredBy : (Config → Told) → Gets → List Example → List (Li
 answeredBy b g [] = []
 answeredBy b g (x ∷ xs) = figuresOf (after g (x .of) (b (x .of)) (x .calls)) (x .figures) ∷ answeredBy b g xs
 
--- what the examples' calls answer; the same behind the tests
+-- what the examples' calls answer; the same with each get, and the start before them, behind its test
 abbrev pub answered : List Example → List (List ℕ)
 answered xs = answeredBy started get xs
 
@@ -180,21 +181,6 @@ examples =
     ∷ []
 
 -- ---- further cases
-
--- table T with a Match of 5 in place of 255 for class 0
-abbrev pub tableT5 : ℕ → Config
-tableT5 f =
-    record {
-      order = 11;
-      frames = f;
-      default = 1;
-      places = 2 ∷ 2 ∷ replicate 6 0;
-      pairs = 0x05000003 ∷ demote ∷ replicate 6 0 ++ steal ∷ match255 ∷ replicate 54 0;
-    }
-
--- words in which every eighth frame is held: 1,792 frames of a tree are free, and no aligned block of eight
-abbrev pub combed : ℕ → List ℕ
-combed n = replicate n 0x0101010101010101
 
 -- an unnamed get without a local; with local 0
 abbrev pub anyone : ℕ → ℕ → Call
