@@ -30,7 +30,7 @@ pub const COLD: &str = ", cold";
 const REASONS: [(&str, &str, &str); 1] = [(
     "get",
     " unnamed",
-    "An unnamed get: the routes hand their results on by value through memory, as structs with an enum inside. It shows on few trees, where the state test, most of a call from 64 trees on, is short.",
+    "An unnamed get: the routes hand their results on by value through memory, as structs with an enum inside; the samples of a profile gather on the copies of these. It shows on few trees, where the state test, most of a call from 64 trees on, is short.",
 )];
 
 /// What is to be timed for a row: its cases by number of trees.
