@@ -33,7 +33,7 @@ pub fn accepts(h: Header, table: &[u32; 64]) -> bool
     let places = h.places;
     if places_fit(h) {
         if h.default < 8 {
-            if words::has_place(&places, h.default) {
+            if words::configured_in(&places, h.default) {
                 return accept_rows::rows_accepted(h, &places, table);
             }
             return false;

@@ -4,24 +4,15 @@ ghost use mathlib.Core.Path.{_≡_};
 ghost use Prim.Native.Nat.{_<_};
 ghost use Rattle.rules.specs.Base.{allBelow};
 ghost use Rattle.rules.specs.Words.{config};
-ghost use Rattle.rules.specs.Policy.{pairOf};
 ghost use Rattle.policy_laws.specs.Rows.{cellAccepted, rowEmpty, rowAccepted};
-
-// The word of the pair (o, e).
-fn pair_at(h: Header, table: &[u32; 64], o: usize, e: usize) -> u32
-    requires { ⌜ (o < 8) × (e < 8) ⌝ }
-    ensures { λ r. ⌜ r ≡ pairOf (config h (now (table .entry))) o e ⌝ }
-{
-    table[o * 8 + e]
-}
 
 // The pair of a configured class o and a class e: its form, and the second and the third rule; zero if e is unconfigured.
 fn cell_accepted(h: Header, places: &[u8; 8], table: &[u32; 64], o: usize, e: usize) -> bool
     requires { ⌜ (now places ≡ h .places) × ((h .default < 8) × ((o < 8) × (e < 8))) ⌝ }
     ensures { λ r. ⌜ r ≡ cellAccepted (config h (now (table .entry))) o e ⌝ }
 {
-    if words::has_place(places, e) {
-        if accept_pairs::formed(pair_at(h, table, o, e)) {
+    if words::configured_in(places, e) {
+        if accept_pairs::formed(words::pair_at(h, table, o, e)) {
             if accept_pairs::leads_back(h, table, o, e) {
                 return accept_pairs::demote_covers(h, table, o, e);
             }
@@ -29,7 +20,7 @@ fn cell_accepted(h: Header, places: &[u8; 8], table: &[u32; 64], o: usize, e: us
         }
         return false;
     }
-    pair_at(h, table, o, e) == 0
+    words::pair_at(h, table, o, e) == 0
 }
 
 // The eight pairs of a configured class o.
@@ -55,7 +46,7 @@ fn row_empty(h: Header, table: &[u32; 64], o: usize) -> bool
     let mut any: u32 = 0;
     let mut e: usize = 0;
     while e < 8 {
-        any = any | pair_at(h, table, o, e);
+        any = any | words::pair_at(h, table, o, e);
         e += 1;
     }
     any == 0
@@ -66,7 +57,7 @@ fn row_accepted(h: Header, places: &[u8; 8], table: &[u32; 64], o: usize) -> boo
     requires { ⌜ (now places ≡ h .places) × ((h .default < 8) × (o < 8)) ⌝ }
     ensures { λ r. ⌜ r ≡ rowAccepted (config h (now (table .entry))) o ⌝ }
 {
-    if words::has_place(places, o) {
+    if words::configured_in(places, o) {
         if 2 <= words::kind_at(h, table, o, o) {
             return cells_accepted(h, places, table, o);
         }

@@ -51,7 +51,7 @@ pub fn rate(h: Header, table: &[u32; 64], q: Request, walk: Walk, e: Tree) -> us
     if e.free < sizes::size(q.order) {
         return 0;
     }
-    ratings::rated_of(table[q.class * 8 + e.class], walk, e.free)
+    ratings::rated_of(words::pair_at(h, table, q.class, e.class), walk, e.free)
 }
 
 // What the list is ordered by: the rating, then fully free above not.

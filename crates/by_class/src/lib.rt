@@ -12,13 +12,6 @@ pub struct Entries {
     pub trees: [usize; 8],
 }
 
-// What a tree has beside its free.
-fn rest(free: usize) -> usize
-    ensures { λ r. ⌜ (r ≡ 2048 - free) × (r ≤ 2048) ⌝ }
-{
-    if free < 2048 { 2048 - free } else { 0 }
-}
-
 // The first n entries, by class.
 pub fn entries_by_class(trees: &[u32], n: usize) -> Entries
     requires { ⌜ n ≤ 1024 ⌝ }
@@ -32,7 +25,7 @@ pub fn entries_by_class(trees: &[u32], n: usize) -> Entries
         let e = trees::load(trees, t);
         let k = e.class;
         free[k] = free[k] + e.free;
-        alloc[k] = alloc[k] + rest(e.free);
+        alloc[k] = alloc[k] + words::less(2048, e.free);
         count[k] = count[k] + 1;
     }
     Entries {

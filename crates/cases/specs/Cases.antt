@@ -2,16 +2,19 @@
 -- leave open, with figures that the Rust gave, or that 01's text gives where the Rust has no answer (Broken, Class 8, Local, Rows, a steal from a
 -- class without locals). Assumes nothing.
 use mathlib.Core.Path.{_≡_, refl}
+use mathlib.Core.Bool.{true}
 use mathlib.Core.List.{List, [], _∷_, _++_}
 use Prim.Native.Nat.{ℕ, _+_, _*_}
 use lib.ListN.{replicate}
-use Rattle.rules.specs.Base.{ifte, allBelow, sum, listed, firstIn}
+use Rattle.rules.specs.Base.{both, ifte, allBelow, sum, listed, firstIn}
 use Rattle.rules.specs.Words.{Config, treeCount, configured, localsOf, slot, localCount, treeOf, treeWord, localOf, localWord}
 use Rattle.rules.specs.Policy.{pairOf, kindOf, cutOf, lowOf, highOf, policyOf, policy, kindAt, good, pairFormed, pairAccepted, tableFormed, rulesAt, tableRules, framesAccepted, placesAccepted, defaultAccepted, accepted}
 use Rattle.rules.specs.Entries.{ifFull, classAfter, putOf, stealKind, stealOf, reserveKind, reserveOf, unreserveKind, unreserveOf, syncOf, entryPut, keepTook, entrySteal, entryUnreserve, keepTaken, entryReserve, keepSync, entrySync}
 use Rattle.rules.specs.Locals.{inTree, localTake, localPut, localRow, localSwap, localClear, hasEnough, cyclic, firstLocal, payerOr, mayPay, mayMove, payerIn, stealAny, demoteAny}
 use Rattle.rules.specs.Lower.{held, heldIn, clearBits, clear, mark, searchIn, hasTree, lowerFind, lowerTake, lowerGet, lowerPut}
+use Rattle.rules.specs.declared.Name.{Name}
 use Rattle.rules.specs.declared.Name.the-variants.{Any, Frame}
+use Rattle.rules.specs.declared.Request.{Request}
 use Rattle.rules.specs.declared.Given.the-variants as Given
 use Rattle.ways.specs.Statistics.{overClass, entryFree, localFree, entryAlloc, reservedFree, inUse, tally, tallies, totalFree, freeTrees, statistics}
 use Rattle.ways.specs.State.{indexOf, done, missed, missedAt, stuck, orElse, withTrees, withLocals, withBits, withTry, withLook, onTook, onTaken, onSync, onHeld, onPut, onSwap, onFound, putEntry, setRow, askLower, unreserve, unreserveLocal}
@@ -21,7 +24,7 @@ use Rattle.ways.specs.Search.{near, roundDown, roundedStart, searchFar, searchF
 use Rattle.ways.specs.Get.{lastRoutes, getAt, startTree, orFrom, getReserving, searchTrees, getAny, routes}
 use Rattle.ways.specs.Standing.{lengthsExact, entryStands, holderStands, localStands, classStands, apart, apartBefore, reservedCount, presentCount, pastHeld, standing}
 use Rattle.ways.specs.Calls.{numberOf, outcomeOf, refuseLocal, refuseClass, refusal, unless, ifStanding, close, frameOf, get, putTo, onGiven, put, drainLocals, onDrained, drainClasses, closeDrain, drain, freeAtStart, freshTree, freshWord, freshState, start}
-use Rattle.ways.specs.Examples.{match255, demote, steal, tableT, asks, gives, startsHeld, drains, stands, number, tree, local, Example, answered, given, examples, further, heldWords, anyone, local0, all5, counted}
+use Rattle.ways.specs.Examples.{match255, demote, steal, tableT, asks, gives, startsHeld, drains, stands, number, tree, local, Example, answered, given, examples, further, heldWords, anyone, local0, all5, counted, untested, begun}
 
 -- table T with a Match of 5 in place of 255 for class 0
 abbrev tableT5 : ℕ → Config
@@ -137,3 +140,12 @@ claims = (refl, (refl, (refl, refl)))
 
 pub claim : answered examples ≡ given examples
 claim = claims .0
+
+-- where the tests pass, a get and a start are what the cases of `ways` compute behind them
+pub get-behind : (c : Config) (q : Request) (name : Name) (t l b : List ℕ) → standing c t l b ≡ true → get c q name t l b ≡ untested c q name t l b
+unfolding get ifStanding ifte
+get-behind c q name t l b p = rw p
+
+pub start-behind : (c : Config) (t l b : List ℕ) → both (accepted c) (lengthsExact c t l b) ≡ true → start c true t l b ≡ begun c
+unfolding start ifte freeAtStart
+start-behind c t l b p = rw p

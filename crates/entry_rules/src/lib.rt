@@ -22,7 +22,7 @@ fn entry_stands(
 {
     let e = trees::load(trees, t);
     if e.free <= 2048 {
-        if words::has_place(places, e.class) {
+        if words::configured_in(places, e.class) {
             if e.reserved {
                 return true;
             }

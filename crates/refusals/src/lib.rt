@@ -1,5 +1,5 @@
-// Each refusal by a call that gives it, and what the loader does then. Only Stuck has no such call. A call is named by the number n that it is to be
-// refused with.
+// Each refusal by a call that gives it, and what the loader does then. A call is named by the number n that it is to be refused with; only Stuck, 9,
+// has none.
 ghost use Prim.Native.Nat.{_<_};
 use rules::Given;
 use rules::Header;
@@ -13,7 +13,7 @@ fn name(frames: usize, n: usize) -> Name {
     match n {
         3 => Name::Frame(frames),
         4 => Name::Frame(1),
-        7 | 12 => Name::Frame(0),
+        7 => Name::Frame(0),
         _ => Name::Any,
     }
 }
@@ -77,11 +77,8 @@ fn short_drain(
     numbers::number(o)
 }
 
-// The header of the call to be refused with n: with the other class as default its table is not accepted.
-fn header(h: Header, n: usize) -> Header {
-    if n != 10 {
-        return h;
-    }
+// The header with the other class as default: with it the table is not accepted.
+fn other_default(h: Header) -> Header {
     let places = h.places;
     Header {
         frames: h.frames,
@@ -104,7 +101,7 @@ fn seven_rows<'a>(
     numbers::number(outcome)
 }
 
-// The number that the call to be refused with n answers; with 0 the start, with 12 the get that takes frame 0. No call is refused with 9.
+// The number that the call to be refused with n answers.
 fn answer(
     h: Header,
     table: &[u32; 64],
@@ -116,18 +113,17 @@ fn answer(
     let q = request(n);
     match n {
         1 => short_drain(h, table, trees, locals, bits),
-        0 | 10 => numbers::number(start::start(header(h, n), table, trees, locals, bits, true)),
+        10 => numbers::number(start::start(other_default(h), table, trees, locals, bits, true)),
         8 => numbers::number(put::put(h, table, trees, locals, bits, 1, q)),
-        9 => 9,
         11 => seven_rows(h, table, trees, locals, bits),
         _ => number(get::get(h, table, trees, locals, bits, name(h.frames, n), q)),
     }
 }
 
-// The call to be refused with n, and the number that it answered; with 0 the start, with 12 the get that takes frame 0.
+// The call to be refused with n, and the number that it answered.
 fn say(n: usize, number: usize) {
     says::call(
-        b"start|\
+        b"|\
         drain on a tree word too few|\
         get of order 12|\
         get of the frame past the last|\
@@ -138,29 +134,52 @@ fn say(n: usize, number: usize) {
         put of frame 1, which is free|\
         no call|\
         start with default 0|\
-        statistics with seven rows|\
-        get of frame 0|",
+        statistics with seven rows|",
         n,
         number,
     );
 }
 
-// The calls in turn: the start, the get that takes frame 0, those to be refused with 1 to 11.
-fn turn(i: usize) -> usize {
-    match i {
-        0 => 0,
-        1 => 12,
-        _ => i - 1,
-    }
+// The store of which frame 0 alone is held: a start, and the get that names it.
+fn hold_first(
+    h: Header,
+    table: &[u32; 64],
+    trees: &mut [u32],
+    locals: &mut [u64],
+    bits: &mut [u64],
+) {
+    let started = start::start(h, table, trees, locals, bits, true);
+    says::outcome(b"start", started);
+    let first = Name::Frame(0);
+    let reply = get::get(h, table, trees, locals, bits, first, request(0));
+    says::call(b"get of frame 0|", 0, number(reply));
 }
 
-// Each refusal in turn, on a store of which frame 0 alone is held.
-pub fn show(h: Header, table: &[u32; 64], trees: &mut [u32], locals: &mut [u64], bits: &mut [u64]) {
-    says::say(b"\nWhat the loader does on each refusal\n");
+// The refusals that a call gives, in turn: 1 to 8, 10 and 11.
+fn turn(i: usize) -> usize {
+    if i < 8 {
+        return i + 1;
+    }
+    if i < 9 {
+        return 10;
+    }
+    11
+}
+
+// Each of them by its call.
+fn refuse(h: Header, table: &[u32; 64], trees: &mut [u32], locals: &mut [u64], bits: &mut [u64]) {
     let mut i = 0;
-    while i < 13 {
+    while i < 10 {
         let n = turn(i);
         say(n, answer(h, table, trees, locals, bits, n));
         i += 1;
     }
+}
+
+// Each refusal, on a store of which frame 0 alone is held; last the one that no call gives.
+pub fn show(h: Header, table: &[u32; 64], trees: &mut [u32], locals: &mut [u64], bits: &mut [u64]) {
+    says::say(b"\nWhat the loader does on each refusal\n");
+    hold_first(h, table, trees, locals, bits);
+    refuse(h, table, trees, locals, bits);
+    say(9, 9);
 }

@@ -30,7 +30,7 @@ fn start_tree(h: Header, table: &[u32; 64], q: Request, i: usize) -> usize
     if m == 0 {
         return 0;
     }
-    portion(spans::tree_count(h.frames), m, i)
+    portion(words::tree_count(h.frames), m, i)
 }
 
 // Own local, then reserving search; a present own reservation that failed gives its tree as the start.
@@ -86,7 +86,7 @@ fn search_trees(
     match local {
         Given::Local(i) => {
             let start = start_tree(h, table, q, i);
-            if words::locals_of(h, q.class) < spans::tree_count(h.frames) {
+            if words::locals_of(h, q.class) < words::tree_count(h.frames) {
                 let j = words::slot(h, q.class, i);
                 return get_reserving(h, table, trees, locals, bits, q, j, start, looks, tries);
             }

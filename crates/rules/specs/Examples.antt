@@ -68,12 +68,15 @@ abbrev pub payer : Payer → ℕ
 payer Payer.Nobody = 0
 payer (Payer.Local k j) = 100 + 10 * k + j
 
+-- the word of an entry with word w after a put of n frames
 abbrev pub entryWord : ℕ → ℕ → ℕ
 entryWord w n = treeWord (putOf (tableT 1) (treeOf w) n)
 
+-- a row of 64 held frames
 abbrev pub full64 : ℕ
 full64 = 0xFFFFFFFFFFFFFFFF
 
+-- what the definitions give
 abbrev pub computed : List ℕ
 computed =
     -- entry put: a reserved entry that becomes full gets the default class; one frame less, it keeps its own
@@ -111,6 +114,7 @@ computed =
     payer (demoteAny (tableT 1) (0x80005000000000E0 ∷ 0 ∷ 0x8000500000000020 ∷ 0x8000200000000040 ∷ []) 0 0 Any 3) ∷
     payer (demoteAny (tableT 1) (0x80005000000000E0 ∷ 0 ∷ 0x8000500000000020 ∷ 0x8000200000000040 ∷ []) 1 0 Any 3) ∷ []
 
+-- what they have to give
 abbrev pub wanted : List ℕ
 wanted =
     0x30000800 ∷ 0x100007FF ∷
@@ -136,6 +140,7 @@ wanted =
     112 ∷
     0 ∷ []
 
+-- both are one
 pub claim : computed ≡ wanted
 unfolding ifte allBelow sum firstIn treeCount configured localsOf slot localCount treeOf treeWord localOf localWord pairOf kindOf cutOf lowOf highOf policyOf policy kindAt good pairFormed pairAccepted tableFormed rulesAt tableRules framesAccepted placesAccepted defaultAccepted accepted ifFull classAfter putOf stealKind stealOf reserveKind reserveOf unreserveKind unreserveOf syncOf inTree localTake hasEnough cyclic firstLocal payerOr mayPay mayMove payerIn stealAny demoteAny held heldIn clearBits clear mark searchIn hasTree lowerFind lowerTake lowerGet lowerPut
 claim = refl

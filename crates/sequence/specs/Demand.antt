@@ -51,6 +51,7 @@ unfoldable pub numberGot : Granted → ℕ
 numberGot (Granted.Done f k) = 0
 numberGot (Granted.Refused x) = numberOf x
 
+-- of any step
 unfoldable pub number : Step → ℕ
 number (gets name q r) = numberGot (r .granted)
 number (puts f q r) = outcomeOf r

@@ -1,16 +1,7 @@
-// How many trees there are, how far near is, and where a reserving search begins.
+// How far near is, and where a reserving search begins.
 ghost use mathlib.Core.Path.{_≡_};
 ghost use Prim.Native.Nat.{_^_, _<_, _≤_};
-ghost use Rattle.rules.specs.Words.{treeCount};
 ghost use Rattle.ways.specs.Search.{near, roundedStart};
-
-// The number of trees of frames that a header may name: 1 to 1,024.
-pub fn tree_count(frames: usize) -> usize
-    requires { ⌜ (0 < frames) × (frames ≤ 2 ^ 21) ⌝ }
-    ensures { λ r. ⌜ (r ≡ treeCount 11 frames) × ((0 < r) × (r ≤ 1024)) ⌝ }
-{
-    words::tree_count(frames)
-}
 
 // near = max(n / 16, 4).
 pub fn near(n: usize) -> usize

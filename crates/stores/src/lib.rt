@@ -165,14 +165,14 @@ fn at_most(n: usize, most: usize) -> usize
     most
 }
 
-// The trees of F frames, at most 200.
+// The trees of F frames; as many as there can be where F is past what a header may name.
 fn exact_trees(frames: usize) -> usize
-    ensures { λ r. ⌜ r ≤ 200 ⌝ }
+    ensures { λ r. ⌜ r ≤ 1024 ⌝ }
 {
-    if frames > 409600 {
-        return 200;
+    if frames > 0x20_0000 {
+        return 1024;
     }
-    (frames + 2047) / 2048
+    words::tree_count(frames)
 }
 
 // The tree words lent, of so many that there are.
@@ -193,7 +193,7 @@ pub fn lent_locals(held: Held, most: usize) -> usize
     if held.locals > 0 {
         return at_most(held.locals - 1, most);
     }
-    at_most(words::first_slot(held.h, 8), most)
+    at_most(words::local_count(held.h), most)
 }
 
 // The bitmap words lent, of so many that there are.

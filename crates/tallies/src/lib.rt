@@ -76,7 +76,7 @@ pub fn all_rows<'a>(h: Header, table: &'a [u32; 64], trees: &'a [u32], locals: &
     ensures { λ r. ⌜ r ≡ rowsOf (tally (config h (now (table .entry))) (now (trees .entry)) (now (locals .entry))) ⌝ }
 {
     let e = by_class::entries_by_class(trees, words::tree_count(h.frames));
-    let held = by_class::reserved_by_class(trees, locals, words::first_slot(h, 8));
+    let held = by_class::reserved_by_class(trees, locals, words::local_count(h));
     Rows {
         r0: class_row(h, table, locals, e, held, 0),
         r1: class_row(h, table, locals, e, held, 1),

@@ -57,7 +57,7 @@ pub fn totals(h: Header, table: &[u32; 64], trees: &[u32], locals: &[u64]) -> Wh
         × (r .trees ≡ freeTrees (config h (now (table .entry))) (now (trees .entry)) (now (locals .entry))) ⌝ }
 {
     let a = entries_whole(trees, words::tree_count(h.frames));
-    let b = locals_whole(locals, words::first_slot(h, 8));
+    let b = locals_whole(locals, words::local_count(h));
     Whole {
         free: a.free + b.free,
         trees: a.trees + b.trees,

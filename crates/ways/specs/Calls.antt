@@ -26,8 +26,9 @@ use Rattle.ways.specs.State.{State, st, Way, size, withBits, onPut, onSw
 use Rattle.ways.specs.Get.{routes}
 use Rattle.ways.specs.Standing.{standing, lengthsExact}
 
--- ---- numbered outcomes: the number of each refusal; 0 is Done
+-- ---- numbered outcomes
 
+-- the number of each refusal; 0 is Done
 unfoldable pub numberOf : Refusal → ℕ
 numberOf Refusal.Broken = 1
 numberOf Refusal.Order = 2

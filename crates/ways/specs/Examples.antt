@@ -29,17 +29,23 @@ use Rattle.ways.specs.Get.{lastRoutes, getAt, startTree, orFrom, getRese
 use Rattle.ways.specs.Standing.{lengthsExact, entryStands, holderStands, localStands, classStands, apart, apartBefore, reservedCount, presentCount, pastHeld, standing}
 use Rattle.ways.specs.Calls.{Told, telling, fresh, numberOf, outcomeOf, refuseLocal, refuseClass, refusal, unless, ifStanding, close, frameOf, get, putTo, onGiven, put, drainLocals, onDrained, drainClasses, closeDrain, drain, freeAtStart, freshTree, freshWord, freshState, start}
 
--- a word of the table: a Match with cut 0, low 0, high 255; Demote; Steal
+-- a word of the table: a Match with cut 0, low 0, high 255
 abbrev pub match255 : ℕ
 match255 = 0xFF000003
 
+-- a Demote
 abbrev pub demote : ℕ
 demote = 2
 
+-- a Steal
 abbrev pub steal : ℕ
 steal = 1
 
--- table T: (0,0), (1,1) Match; (0,1) Demote; (1,0) Steal; classes 0 and 1 with n locals each, default d
+-- the pairs of table T: (0,0), (1,1) Match; (0,1) Demote; (1,0) Steal
+abbrev pub pairsT : List ℕ
+pairsT = match255 ∷ demote ∷ replicate 6 0 ++ steal ∷ match255 ∷ replicate 54 0
+
+-- table T with f frames, n locals for each of the classes 0 and 1, default d
 abbrev pub tableT : ℕ → ℕ → ℕ → Config
 tableT f n d =
     record {
@@ -47,7 +53,7 @@ tableT f n d =
       frames = f;
       default = d;
       places = suc n ∷ suc n ∷ replicate 6 0;
-      pairs = match255 ∷ demote ∷ replicate 6 0 ++ steal ∷ match255 ∷ replicate 54 0;
+      pairs = pairsT;
     }
 
 -- a get (order, class, local, frame), a put, a start (all free, all held), a drain; or words stored by hand: tree t's entry, the local j, the words of the tree; or all words
@@ -58,11 +64,12 @@ pub data Call : Type 0 where
   holds : ℕ → ℕ → ℕ → ℕ → List ℕ → Call
   stands : List ℕ → List ℕ → List ℕ → Call
 
--- a figure that an example gives, and what is seen of the answer
+-- a figure that an example gives
 pub data Figure : Type 0 where
   number frame class looks tries : Figure
   tree local : ℕ → Figure
 
+-- what is seen of it in an answer
 abbrev pub seen : Told → Figure → ℕ
 seen r number = r .number
 seen r frame = r .frame
@@ -84,6 +91,7 @@ Gets = Config → Request → Name → List ℕ → List ℕ → List ℕ → To
 abbrev pub untested : Gets
 untested c q name t l b = unless (refusal c q (frameOf name)) (fresh t l b) (λ s. close (routes c q name s))
 
+-- what a call tells after another
 abbrev pub call : Gets → Config → Told → Call → Told
 call g c r (asks o k l f) = g c (record { order = o; class = k; local = l }) f (r .trees) (r .locals) (r .bits)
 call g c r (gives o k l f) = put c (record { order = o; class = k; local = l }) f (r .trees) (r .locals) (r .bits)
@@ -93,6 +101,7 @@ call g c r startsHeld = start c false (r .trees) (r .locals) (r .bits)
 call g c r starts = start c true (r .trees) (r .locals) (r .bits)
 call g c r (holds t e j l xs) = telling 0 0 0 (fresh (set (r .trees) t e) (set (r .locals) j l) (paste (r .bits) (treeRows (c .order) * t) xs))
 
+-- what the last of these calls tells
 abbrev pub after : Gets → Config → Told → List Call → Told
 after g c r [] = r
 after g c r (x ∷ xs) = after g c (call g c r x) xs
@@ -108,28 +117,33 @@ pub record Example : Type 0 where
 abbrev pub lent : Config → Told
 lent c = telling 0 0 0 (fresh (replicate (trees c) 7) (replicate (localCount (c .places)) 7) (replicate (treeRows (c .order) * trees c) 7))
 
--- what a start tells, all free; what it tells behind its tests
+-- what a start tells, all free
 abbrev pub started : Config → Told
 started c = start c true (lent c .trees) (lent c .locals) (lent c .bits)
 
+-- what it tells behind its tests
 abbrev pub begun : Config → Told
 begun c = telling 0 0 0 (freshState c (c .frames))
 
+-- these figures of an answer
 abbrev pub figuresOf : Told → List Figure → List ℕ
 figuresOf r [] = []
 figuresOf r (x ∷ xs) = seen r x ∷ figuresOf r xs
 
+-- the figures of each example, with such a start and such gets
 abbrev pub answeredBy : (Config → Told) → Gets → List Example → List (List ℕ)
 answeredBy b g [] = []
 answeredBy b g (x ∷ xs) = figuresOf (after g (x .of) (b (x .of)) (x .calls)) (x .figures) ∷ answeredBy b g xs
 
--- what the examples' calls answer; the same with each get, and the start before them, behind its test
+-- what the examples' calls answer
 abbrev pub answered : List Example → List (List ℕ)
 answered xs = answeredBy started get xs
 
+-- the same with each get, and the start before them, behind its tests
 abbrev pub behind : List Example → List (List ℕ)
 behind xs = answeredBy begun untested xs
 
+-- the figures that the examples give
 abbrev pub given : List Example → List (List ℕ)
 given [] = []
 given (x ∷ xs) = x .wants ∷ given xs
@@ -146,6 +160,7 @@ e8 f = asks 0 1 Given.Nothing (Frame f)
 abbrev pub heldWords : ℕ → List ℕ
 heldWords n = replicate n 0xFFFFFFFFFFFFFFFF
 
+-- E1 to E12
 abbrev pub examples : List Example
 examples =
     -- E1 order 0, class 0, local 0
@@ -182,16 +197,19 @@ examples =
 
 -- ---- further cases
 
--- an unnamed get without a local; with local 0
+-- an unnamed get without a local
 abbrev pub anyone : ℕ → ℕ → Call
 anyone o k = asks o k Given.Nothing Any
 
+-- an unnamed get with local 0
 abbrev pub local0 : ℕ → ℕ → Call
 local0 o k = asks o k (Given.Local 0) Any
 
+-- all five figures of a get
 abbrev pub all5 : List Figure
 all5 = number ∷ frame ∷ class ∷ looks ∷ tries ∷ []
 
+-- cases that E1 to E12 leave open
 abbrev pub further : List Example
 further =
     -- a steal from a local answers that local's class, and keeps its row
@@ -206,8 +224,11 @@ further =
     ∷ record { of = tableT 6144 3 1; calls = asks 0 1 (Given.Local 2) Any ∷ []; figures = all5 ++ tree 2 ∷ []; wants = 0 ∷ 4096 ∷ 1 ∷ 1 ∷ 1 ∷ 0x200007ff ∷ [] }
     -- a reserving search that steals answers the class that the entry has
     ∷ record { of = tableT 4096 1 1; calls = stands (0x800 ∷ 0x800 ∷ []) (0 ∷ 0 ∷ []) (replicate 64 0) ∷ local0 0 1 ∷ []; figures = all5 ++ tree 0 ∷ local 1 ∷ []; wants = 0 ∷ 0 ∷ 0 ∷ 5 ∷ 1 ∷ 0x7ff ∷ 0 ∷ [] }
+    -- where a steal from a local and a demote could both pay, the steal does
+    ∷ record { of = tableT 4096 1 1; calls = stands (0x10000000 ∷ 0x30000000 ∷ []) (0x8080000000000000 ∷ 0x8080000000000020 ∷ []) (replicate 64 0) ∷ anyone 0 0 ∷ []; figures = all5 ++ local 0 ∷ local 1 ∷ []; wants = 0 ∷ 0 ∷ 0 ∷ 2 ∷ 1 ∷ 0x807ff00000000000 ∷ 0x8080000000000020 ∷ [] }
     ∷ []
 
+-- states that are refused
 abbrev pub broken : List Example
 broken =
     -- Broken: bits past F clear; two locals on one tree
@@ -217,10 +238,12 @@ broken =
 
 -- ---- statistics: number, total free, free trees, and of the rows of classes 0 and 1 free, allocated, in use
 
+-- the figures of rows, one after the other
 abbrev pub rowsOf : List Tally → List ℕ
 rowsOf [] = []
 rowsOf (x ∷ xs) = x .free ∷ x .alloc ∷ x .used ∷ rowsOf xs
 
+-- the figures of a report
 abbrev pub figuresIn : Report → List ℕ
 figuresIn r = r .number ∷ r .free ∷ r .trees ∷ rowsOf (take 2 (r .rows))
 
@@ -232,7 +255,7 @@ lentRows (suc n) = record { free = 7; alloc = 7; used = 7 } ∷ lentRows n
 -- a wholly free tree split 1 + 2,047 is no free tree, a local that holds a whole one is; tree 1 is of class 1 and held by class 0
 abbrev pub counted : ℕ → ℕ → List ℕ
 counted entry0 n =
-    figuresIn (statistics (record { order = 11; frames = 6144; default = 1; places = 3 ∷ 2 ∷ replicate 6 0; pairs = match255 ∷ demote ∷ replicate 6 0 ++ steal ∷ match255 ∷ replicate 54 0 })
+    figuresIn (statistics (record { order = 11; frames = 6144; default = 1; places = 3 ∷ 2 ∷ replicate 6 0; pairs = pairsT })
     (entry0 ∷ 0x30000000 ∷ 0x20000800 ∷ []) (0x807FF00000000000 ∷ 0x8080000000000020 ∷ 0 ∷ []) (replicate 96 0) (lentRows n))
 
 -- E1 to E12 and the further cases come out as given behind the tests; the broken states are refused; the statistics are as given

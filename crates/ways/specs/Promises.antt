@@ -21,6 +21,7 @@ pub record Words : Type 0 where
   pub locals : List ℕ
   pub bits : List ℕ
 
+-- the three of them together
 abbrev pub words : List ℕ → List ℕ → List ℕ → Words
 words t l b = record { trees = t; locals = l; bits = b }
 

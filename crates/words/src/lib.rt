@@ -7,7 +7,7 @@ ghost use mathlib.Core.Path.{_≡_};
 ghost use Prim.Native.Nat.{_^_, _-_, _<_, _≤_};
 ghost use Rattle.rules.specs.Base.{sum};
 ghost use Rattle.rules.specs.Words.{config, treeCount, configured, localsOf, slot, localCount, treeOf, treeWord, localOf, localWord};
-ghost use Rattle.rules.specs.Policy.{policyOf, policy, kindAt};
+ghost use Rattle.rules.specs.Policy.{pairOf, policyOf, policy, kindAt};
 
 // The answer of a pair's word, asked with a number of free frames.
 pub fn policy_of(w: u32, free: usize) -> Kind
@@ -28,12 +28,20 @@ pub fn policy_of(w: u32, free: usize) -> Kind
     Kind::Match((w / 0x1_0000 % 0x100) as usize)
 }
 
+// The word of a pair of classes.
+pub fn pair_at(h: Header, table: &[u32; 64], requested: usize, target: usize) -> u32
+    requires { ⌜ (requested < 8) × (target < 8) ⌝ }
+    ensures { λ r. ⌜ r ≡ pairOf (config h (now (table .entry))) requested target ⌝ }
+{
+    table[requested * 8 + target]
+}
+
 // The policy: a requested and a target class, asked with a number of free frames.
 pub fn ask(h: Header, table: &[u32; 64], requested: usize, target: usize, free: usize) -> Kind
     requires { ⌜ (requested < 8) × (target < 8) ⌝ }
     ensures { λ r. ⌜ r ≡ policy (config h (now (table .entry))) requested target free ⌝ }
 {
-    policy_of(table[requested * 8 + target], free)
+    policy_of(pair_at(h, table, requested, target), free)
 }
 
 // The kind of a pair of classes: Invalid 0, Steal 1, Demote 2 or Match 3.
@@ -41,7 +49,7 @@ pub fn kind_at(h: Header, table: &[u32; 64], requested: usize, target: usize) ->
     requires { ⌜ (requested < 8) × (target < 8) ⌝ }
     ensures { λ r. ⌜ r ≡ kindAt (config h (now (table .entry))) requested target ⌝ }
 {
-    table[requested * 8 + target] % 4
+    pair_at(h, table, requested, target) % 4
 }
 
 // A tree's word taken apart.
@@ -101,13 +109,13 @@ pub fn wide(x: u8) -> usize
 
 // One number less another, but no less than 0.
 pub fn less(a: usize, b: usize) -> usize
-    ensures { λ r. ⌜ r ≡ a - b ⌝ }
+    ensures { λ r. ⌜ (r ≡ a - b) × (r ≤ a) ⌝ }
 {
     if b < a { a - b } else { 0 }
 }
 
 // Whether a class is configured: lent places, so that none are copied.
-pub fn has_place(places: &[u8; 8], class: usize) -> bool
+pub fn configured_in(places: &[u8; 8], class: usize) -> bool
     requires { ⌜ class < 8 ⌝ }
     ensures { λ r. ⌜ r ≡ configured (now (places .entry)) class ⌝ }
 {
@@ -128,7 +136,7 @@ pub fn is_configured(h: Header, class: usize) -> bool
     ensures { λ r. ⌜ r ≡ configured (h .places) class ⌝ }
 {
     let places = h.places;
-    has_place(&places, class)
+    configured_in(&places, class)
 }
 
 // The number of locals of a class.
@@ -162,15 +170,15 @@ pub fn slot(h: Header, class: usize, index: usize) -> usize
 
 // The number of locals of all classes.
 pub fn local_count(h: Header) -> usize
-    ensures { λ r. ⌜ r ≡ localCount (h .places) ⌝ }
+    ensures { λ r. ⌜ (r ≡ localCount (h .places)) × (r < 2048) ⌝ }
 {
     first_slot(h, 8)
 }
 
-// The number of trees of so many frames.
+// The number of trees of so many frames, as a header may name them: 1,024 at most.
 pub fn tree_count(frames: usize) -> usize
-    requires { ⌜ frames < 2 ^ 32 ⌝ }
-    ensures { λ r. ⌜ r ≡ treeCount 11 frames ⌝ }
+    requires { ⌜ frames ≤ 2 ^ 21 ⌝ }
+    ensures { λ r. ⌜ (r ≡ treeCount 11 frames) × ((0 < frames → 0 < r) × (r ≤ 1024)) ⌝ }
 {
     (frames + 2047) / 2048
 }

@@ -39,8 +39,8 @@ returns-2 c =
 places-fit-requires : tie.Need-places-fit-requires
 places-fit-requires c κs = search needs
 
-has-place-requires : tie.Need-has-place-requires
-has-place-requires c κs = search needs
+configured-in-requires : tie.Need-configured-in-requires
+configured-in-requires c κs = search needs
 
 rows-accepted-requires : tie.Need-rows-accepted-requires
 rows-accepted-requires c κs = search needs
@@ -54,7 +54,7 @@ returns-3 c =
       ← c .before .before .before .before .before .before .before .before .places-fit .ensures,
       c .before .before .before .before .before .before .before .if3 .taken,
       lt-ltb _ _ (c .before .before .before .before .before .if4 .taken),
-      ← c .before .before .before .has-place .ensures,
+      ← c .before .before .before .configured-in .ensures,
       c .before .before .if5 .taken,
     )
     (c .rows-accepted .ensures ∙ sym (table-rows _))
@@ -68,7 +68,7 @@ returns-4 c =
       ← c .before .before .before .before .before .before .places-fit .ensures,
       c .before .before .before .before .before .if3 .taken,
       lt-ltb _ _ (c .before .before .before .if4 .taken),
-      ← c .before .has-place .ensures,
+      ← c .before .configured-in .ensures,
       c .if5 .left,
     )
 
@@ -100,7 +100,7 @@ accepts-spec =
     returns
     returns-2
     places-fit-requires
-    has-place-requires
+    configured-in-requires
     rows-accepted-requires
     returns-3
     returns-4

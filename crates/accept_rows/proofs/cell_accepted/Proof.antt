@@ -6,8 +6,8 @@ use borrow.Author.Needs.{needs}
 use Rattle.accept_rows.proofs.cell_accepted.Statement.{statement}
 use Rattle.accept_rows.proofs.cell_accepted.Tie as tie
 
-has-place-requires : tie.Need-has-place-requires
-has-place-requires c κs = search needs
+configured-in-requires : tie.Need-configured-in-requires
+configured-in-requires c κs = search needs
 
 pair-at-requires : tie.Need-pair-at-requires
 pair-at-requires c κs = search needs
@@ -25,7 +25,7 @@ returns : tie.Need-returns
 unfolding cellAccepted
 returns c =
     rw (
-      ← (c .before .before .before .before .before .before .before .has-place .ensures ∙ ap (λ p. configured p (c .before .before .before .before .before .before .before .before .args .e)) (c .before .before .before .before .before .before .before .before .pre .0)),
+      ← (c .before .before .before .before .before .before .before .configured-in .ensures ∙ ap (λ p. configured p (c .before .before .before .before .before .before .before .before .args .e)) (c .before .before .before .before .before .before .before .before .pre .0)),
       c .before .before .before .before .before .before .if1 .taken,
       ← c .before .before .before .before .before .pair-at .ensures,
       ← c .before .before .before .before .formed .ensures,
@@ -39,7 +39,7 @@ returns-2 : tie.Need-returns-2
 unfolding cellAccepted
 returns-2 c =
     rw (
-      ← (c .before .before .before .before .before .before .has-place .ensures ∙ ap (λ p. configured p (c .before .before .before .before .before .before .before .args .e)) (c .before .before .before .before .before .before .before .pre .0)),
+      ← (c .before .before .before .before .before .before .configured-in .ensures ∙ ap (λ p. configured p (c .before .before .before .before .before .before .before .args .e)) (c .before .before .before .before .before .before .before .pre .0)),
       c .before .before .before .before .before .if1 .taken,
       ← c .before .before .before .before .pair-at .ensures,
       ← c .before .before .before .formed .ensures,
@@ -52,7 +52,7 @@ returns-3 : tie.Need-returns-3
 unfolding cellAccepted
 returns-3 c =
     rw (
-      ← (c .before .before .before .before .has-place .ensures ∙ ap (λ p. configured p (c .before .before .before .before .before .args .e)) (c .before .before .before .before .before .pre .0)),
+      ← (c .before .before .before .before .configured-in .ensures ∙ ap (λ p. configured p (c .before .before .before .before .before .args .e)) (c .before .before .before .before .before .pre .0)),
       c .before .before .before .if1 .taken,
       ← c .before .before .pair-at .ensures,
       ← c .before .formed .ensures,
@@ -66,7 +66,7 @@ returns-4 : tie.Need-returns-4
 unfolding cellAccepted
 returns-4 c =
     rw (
-      ← (c .before .before .has-place .ensures ∙ ap (λ p. configured p (c .before .before .before .args .e)) (c .before .before .before .pre .0)),
+      ← (c .before .before .configured-in .ensures ∙ ap (λ p. configured p (c .before .before .before .args .e)) (c .before .before .before .pre .0)),
       c .before .if1 .left,
       ← c .pair-at2 .ensures,
     )
@@ -75,7 +75,7 @@ pub cell-accepted-spec : {M : Type 1} → statement M
 cell-accepted-spec =
     tie.close
     (tie.spec
-    has-place-requires
+    configured-in-requires
     pair-at-requires
     formed-requires
     leads-back-requires

@@ -8,8 +8,8 @@ use borrow.Author.Needs.{needs}
 use Rattle.accept_rows.proofs.row_accepted.Statement.{statement}
 use Rattle.accept_rows.proofs.row_accepted.Tie as tie
 
-has-place-requires : tie.Need-has-place-requires
-has-place-requires c κs = search needs
+configured-in-requires : tie.Need-configured-in-requires
+configured-in-requires c κs = search needs
 
 kind-at-requires : tie.Need-kind-at-requires
 kind-at-requires c κs = search needs
@@ -21,7 +21,7 @@ returns : tie.Need-returns
 unfolding rowAccepted good
 returns c =
     rw (
-      ← (c .before .before .before .before .has-place .ensures ∙ ap (λ p. configured p (c .before .before .before .before .before .args .o)) (c .before .before .before .before .before .pre .0)),
+      ← (c .before .before .before .before .configured-in .ensures ∙ ap (λ p. configured p (c .before .before .before .before .before .args .o)) (c .before .before .before .before .before .pre .0)),
       c .before .before .before .if1 .taken,
       ← c .before .before .kind-at .ensures,
       le-leb _ _ (c .before .if2 .taken),
@@ -32,7 +32,7 @@ returns-2 : tie.Need-returns-2
 unfolding rowAccepted good
 returns-2 c =
     rw (
-      ← (c .before .before .before .has-place .ensures ∙ ap (λ p. configured p (c .before .before .before .before .args .o)) (c .before .before .before .before .pre .0)),
+      ← (c .before .before .before .configured-in .ensures ∙ ap (λ p. configured p (c .before .before .before .before .args .o)) (c .before .before .before .before .pre .0)),
       c .before .before .if1 .taken,
       ← c .before .kind-at .ensures,
       lt-leb _ _ (c .if2 .left),
@@ -45,7 +45,7 @@ returns-3 : tie.Need-returns-3
 unfolding rowAccepted good
 returns-3 c =
     rw (
-      ← (c .before .before .has-place .ensures ∙ ap (λ p. configured p (c .before .before .before .args .o)) (c .before .before .before .pre .0)),
+      ← (c .before .before .configured-in .ensures ∙ ap (λ p. configured p (c .before .before .before .args .o)) (c .before .before .before .pre .0)),
       c .before .if1 .left,
       ← c .row-empty .ensures,
     )
@@ -54,7 +54,7 @@ pub row-accepted-spec : {M : Type 1} → statement M
 row-accepted-spec =
     tie.close
     (tie.spec
-    has-place-requires
+    configured-in-requires
     kind-at-requires
     cells-accepted-requires
     returns

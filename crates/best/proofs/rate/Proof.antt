@@ -1,5 +1,5 @@
 -- `best::rate` meets its contract: reserved, too little free, or rated by the policy. Assumes nothing.
-use Rattle.rules.specs.Policy.{policy, pairOf}
+use Rattle.rules.specs.Policy.{policy}
 use Rattle.ways.specs.Walk.{rate}
 use borrow.Author.Tests.{le-ltb, lt-ltb}
 use borrow.Author.Needs.{needs}
@@ -7,11 +7,12 @@ use Rattle.best.proofs.rate.Statement.{statement}
 use Rattle.best.proofs.rate.Tie as tie
 use Rattle.best.proofs.rate.Reads as reads
 use Rattle.best.proofs.rate.Lts as lts
+use Rattle.words.proofs.pair_at.Reads as pair-at-reads
 use Rattle.ratings.proofs.rated_of.Reads as rated-of-reads
 use Rattle.sizes.proofs.size.Reads as size-reads
 
 returns : tie.Need-returns
-unfolding rate policy pairOf
+unfolding rate policy
 returns c =
     (rw (c .if1 .taken), search needs)
 
@@ -19,7 +20,7 @@ size-requires : tie.Need-size-requires
 size-requires c κs = search needs
 
 returns-2 : tie.Need-returns-2
-unfolding rate policy pairOf
+unfolding rate policy
 returns-2 c = (
   rw (
     c .before .before .before .if1 .left,
@@ -29,28 +30,20 @@ returns-2 c = (
   search needs,
 )
 
-mul-rated-of : tie.Need-mul-rated-of
-mul-rated-of c = search needs
-
-add-rated-of : tie.Need-add-rated-of
-add-rated-of c = search needs
-
-mul-rated-of-2 : tie.Need-mul-rated-of-2
-mul-rated-of-2 c = search needs
-
-element-copy-out-rated-of : tie.Need-element-copy-out-rated-of
-element-copy-out-rated-of c = search needs
+pair-at-requires : tie.Need-pair-at-requires
+pair-at-requires c κs = search needs
 
 rated-of-requires : tie.Need-rated-of-requires
 rated-of-requires c κs = search needs
 
 returns-3 : tie.Need-returns-3
-unfolding rate policy pairOf
+unfolding rate policy
 returns-3 c = (
   rw (
     c .before .before .before .before .before .before .before .if1 .left,
     ← c .before .before .before .before .before .before .size .ensures,
     le-ltb _ _ (c .before .before .before .before .if2 .left),
+    ← c .before .pair-at .ensures,
     ← c .rated-of .ensures .0,
   ),
   search needs,
@@ -63,9 +56,6 @@ rate-spec =
     returns
     size-requires
     returns-2
-    mul-rated-of
-    add-rated-of
-    mul-rated-of-2
-    element-copy-out-rated-of
+    pair-at-requires
     rated-of-requires
     returns-3)

@@ -40,11 +40,11 @@ mul-alloc c = search needs
 array-read-alloc : tie.Need-array-read-alloc Inv-loop μ-loop
 array-read-alloc c = omega (arith, c .before .load .ensures .1 .1, c .before .before .before .loop .inv .1 .1 .0 .len)
 
-rest-requires : tie.Need-rest-requires Inv-loop μ-loop
-rest-requires c κs = search needs
+less-requires : tie.Need-less-requires Inv-loop μ-loop
+less-requires c κs = search needs
 
 add-alloc : tie.Need-add-alloc Inv-loop μ-loop
-add-alloc c = omega (arith, c .rest .ensures .1, c .before .before .before .before .loop .inv .1 .1 .0 .most _ (c .before .before .load .ensures .1 .1))
+add-alloc c = omega (arith, c .less .ensures .1, c .before .before .before .before .loop .inv .1 .1 .0 .most _ (c .before .before .load .ensures .1 .1))
 
 mul-alloc-2 : tie.Need-mul-alloc-2 Inv-loop μ-loop
 mul-alloc-2 c = search needs
@@ -82,7 +82,7 @@ loop-again c =
       (
         summed-more _ _ _ _ _ _ (e .1 .1) (omega (arith, e .1 .0)) (λ k. rw (← e .0)) (i .0),
         (
-          summed-more _ _ _ _ _ _ (e .1 .1) (c .rest .ensures .1) (λ k. rw (← e .0, ← c .rest .ensures .0)) (i .1 .0),
+          summed-more _ _ _ _ _ _ (e .1 .1) (c .less .ensures .1) (λ k. rw (← e .0, ← c .less .ensures .0)) (i .1 .0),
           summed-more _ _ _ _ _ _ (e .1 .1) (omega arith) (λ k. rw (← e .0)) (i .1 .1),
         ),
       ),
@@ -106,7 +106,7 @@ entries-by-class-spec =
     array-write-free
     mul-alloc
     array-read-alloc
-    rest-requires
+    less-requires
     add-alloc
     mul-alloc-2
     array-write-alloc

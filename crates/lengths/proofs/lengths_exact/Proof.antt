@@ -21,9 +21,9 @@ returns : tie.Need-returns
 unfolding lengthsExact
 returns c =
     rw (
-      ← c .before .before .before .tree-count .ensures,
+      ← c .before .before .before .tree-count .ensures .0,
       eq-eqb _ _ (c .before .before .if1 .taken),
-      ← c .before .local-count .ensures,
+      ← c .before .local-count .ensures .0,
       eq-eqb _ _ (c .if2 .taken),
     )
 
@@ -31,9 +31,9 @@ returns-2 : tie.Need-returns-2
 unfolding lengthsExact
 returns-2 c =
     rw (
-      ← c .before .before .before .tree-count .ensures,
+      ← c .before .before .before .tree-count .ensures .0,
       eq-eqb _ _ (c .before .before .if1 .taken),
-      ← c .before .local-count .ensures,
+      ← c .before .local-count .ensures .0,
       ne-eqb _ _ (c .if2 .left),
     )
 
@@ -41,7 +41,7 @@ returns-3 : tie.Need-returns-3
 unfolding lengthsExact
 returns-3 c =
     rw (
-      ← c .before .tree-count .ensures,
+      ← c .before .tree-count .ensures .0,
       ne-eqb _ _ (c .if1 .left),
     )
 

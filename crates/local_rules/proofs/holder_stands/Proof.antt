@@ -25,7 +25,7 @@ returns : tie.Need-returns
 unfolding holderStands good
 returns c =
     rw (
-      ← c .before .before .before .before .before .before .before .before .tree-count .ensures,
+      ← c .before .before .before .before .before .before .before .before .tree-count .ensures .0,
       lt-ltb _ _ (c .before .before .before .before .before .before .before .if1 .taken),
       ← c .before .before .before .before .before .before .load .ensures .0,
       c .before .before .before .before .before .if2 .taken,
@@ -38,7 +38,7 @@ returns-2 : tie.Need-returns-2
 unfolding holderStands good
 returns-2 c =
     rw (
-      ← c .before .before .before .before .before .tree-count .ensures,
+      ← c .before .before .before .before .before .tree-count .ensures .0,
       lt-ltb _ _ (c .before .before .before .before .if1 .taken),
       ← c .before .before .before .load .ensures .0,
       c .before .before .if2 .taken,
@@ -50,7 +50,7 @@ returns-3 : tie.Need-returns-3
 unfolding holderStands good
 returns-3 c =
     rw (
-      ← c .before .before .before .tree-count .ensures,
+      ← c .before .before .before .tree-count .ensures .0,
       lt-ltb _ _ (c .before .before .if1 .taken),
       ← c .before .load .ensures .0,
       c .if2 .left,
@@ -60,7 +60,7 @@ returns-4 : tie.Need-returns-4
 unfolding holderStands good
 returns-4 c =
     rw (
-      ← c .before .tree-count .ensures,
+      ← c .before .tree-count .ensures .0,
       le-ltb _ _ (c .if1 .left),
     )
 

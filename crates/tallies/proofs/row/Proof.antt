@@ -49,7 +49,7 @@ less-requires-2 c κs = search needs
 
 returns : tie.Need-returns
 unfolding rowOf
-returns c = rw (c .less2 .ensures, c .before .less .ensures)
+returns c = rw (c .less2 .ensures .0, c .before .less .ensures .0)
 
 pub row-spec : {M : Type 1} → statement M
 row-spec =

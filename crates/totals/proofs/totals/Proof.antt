@@ -1,8 +1,6 @@
 -- `totals::totals` meets its contract. Assumes nothing.
 use borrow.Author.Needs.{needs}
-use Rattle.rules.specs.Words.{localCount}
 use Rattle.ways.specs.Statistics.{totalFree, freeTrees}
-use Rattle.policy_laws.specs.Count.{count-most}
 use Rattle.totals.specs.Wholes.{entriesFree, entriesWhole, localsFree, localsWhole}
 use Rattle.totals.proofs.totals.Statement.{statement}
 use Rattle.totals.proofs.totals.Tie as tie
@@ -11,10 +9,10 @@ tree-count-requires : tie.Need-tree-count-requires
 tree-count-requires c κs = search needs
 
 entries-whole-requires : tie.Need-entries-whole-requires
-entries-whole-requires c κs = rw (c .tree-count .ensures) (count-most 11 _ (c .before .before .before .pre))
+entries-whole-requires c κs = c .tree-count .ensures .1 .1
 
-first-slot-requires : tie.Need-first-slot-requires
-first-slot-requires c κs = search needs
+local-count-requires : tie.Need-local-count-requires
+local-count-requires c κs = search needs
 
 locals-whole-requires : tie.Need-locals-whole-requires
 locals-whole-requires c κs = search needs
@@ -26,10 +24,10 @@ add-t8 : tie.Need-add-t8
 add-t8 c = search needs
 
 returns : tie.Need-returns
-unfolding totalFree freeTrees entriesFree entriesWhole localsFree localsWhole localCount
+unfolding totalFree freeTrees entriesFree entriesWhole localsFree localsWhole
 returns c = (
-  rw (c .before .before .before .before .before .before .entries-whole .ensures .0, c .before .before .before .before .locals-whole .ensures .0, c .before .before .before .before .before .before .before .tree-count .ensures, c .before .before .before .before .before .first-slot .ensures .0),
-  rw (c .before .before .before .before .before .before .entries-whole .ensures .1 .0, c .before .before .before .before .locals-whole .ensures .1 .0, c .before .before .before .before .before .before .before .tree-count .ensures, c .before .before .before .before .before .first-slot .ensures .0),
+  rw (c .before .before .before .before .before .before .entries-whole .ensures .0, c .before .before .before .before .locals-whole .ensures .0, c .before .before .before .before .before .before .before .tree-count .ensures .0, c .before .before .before .before .before .local-count .ensures .0),
+  rw (c .before .before .before .before .before .before .entries-whole .ensures .1 .0, c .before .before .before .before .locals-whole .ensures .1 .0, c .before .before .before .before .before .before .before .tree-count .ensures .0, c .before .before .before .before .before .local-count .ensures .0),
 )
 
 pub totals-spec : {M : Type 1} → statement M
@@ -38,7 +36,7 @@ totals-spec =
     (tie.spec
     tree-count-requires
     entries-whole-requires
-    first-slot-requires
+    local-count-requires
     locals-whole-requires
     add-t7
     add-t8

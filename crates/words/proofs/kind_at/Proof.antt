@@ -1,27 +1,16 @@
 -- `words::kind_at` meets its contract. Assumes nothing.
-use Rattle.rules.specs.Policy.{kindAt, kindOf, pairOf}
-use mathlib.Core.Path.{refl}
+use Rattle.rules.specs.Policy.{kindAt, kindOf}
 use borrow.Author.Needs.{needs}
 use Rattle.words.proofs.kind_at.Statement.{statement}
 use Rattle.words.proofs.kind_at.Tie as tie
 
-mul-result : tie.Need-mul-result
-mul-result c = search needs
-
-add-result : tie.Need-add-result
-add-result c = search needs
-
-mul-result-2 : tie.Need-mul-result-2
-mul-result-2 c = search needs
-
-element-copy-out-result : tie.Need-element-copy-out-result
-element-copy-out-result c = search needs
+pair-at-requires : tie.Need-pair-at-requires
+pair-at-requires c κs = search needs
 
 returns : tie.Need-returns
-unfolding kindAt kindOf pairOf
+unfolding kindAt kindOf
 returns c =
-    refl
+    rw (← c .pair-at .ensures)
 
 pub kind-at-spec : {M : Type 1} → statement M
-kind-at-spec =
-    tie.close (tie.spec mul-result add-result mul-result-2 element-copy-out-result returns)
+kind-at-spec = tie.close (tie.spec pair-at-requires returns)

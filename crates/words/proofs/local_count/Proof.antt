@@ -10,7 +10,7 @@ first-slot-requires c κs = search needs
 returns : tie.Need-returns
 unfolding localCount
 returns c =
-    rw (← c .first-slot .ensures .0)
+    (rw (← c .first-slot .ensures .0), c .first-slot .ensures .1)
 
 pub local-count-spec : {M : Type 1} → statement M
 local-count-spec = tie.close (tie.spec first-slot-requires returns)

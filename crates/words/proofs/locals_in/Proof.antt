@@ -17,7 +17,7 @@ less-requires c κs = search needs
 returns : tie.Need-returns
 unfolding localsOf
 returns c =
-    (rw (← c .before .wide .ensures .0) (c .less .ensures), omega (arith, c .less .ensures, c .before .wide .ensures .1))
+    (rw (← c .before .wide .ensures .0) (c .less .ensures .0), omega (arith, c .less .ensures .1, c .before .wide .ensures .1))
 
 pub locals-in-spec : {M : Type 1} → statement M
 locals-in-spec =

@@ -1,6 +1,7 @@
 -- `words::tree_count` meets its contract. Assumes nothing.
 use Rattle.rules.specs.Words.{treeCount}
 use mathlib.Core.Path.{refl}
+use native.Mathlib.Omega.{arith}
 use borrow.Author.Needs.{needs}
 use Rattle.words.proofs.tree_count.Statement.{statement}
 use Rattle.words.proofs.tree_count.Tie as tie
@@ -11,7 +12,7 @@ add-result c = search needs
 returns : tie.Need-returns
 unfolding treeCount
 returns c =
-    refl
+    (refl, ((λ p. omega arith), omega arith))
 
 pub tree-count-spec : {M : Type 1} → statement M
 tree-count-spec = tie.close (tie.spec add-result returns)

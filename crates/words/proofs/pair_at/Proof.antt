@@ -1,9 +1,9 @@
--- `accept_rows::pair_at` meets its contract. Assumes nothing.
+-- `words::pair_at` meets its contract. Assumes nothing.
 use Rattle.rules.specs.Policy.{pairOf}
 use mathlib.Core.Path.{refl}
 use borrow.Author.Needs.{needs}
-use Rattle.accept_rows.proofs.pair_at.Statement.{statement}
-use Rattle.accept_rows.proofs.pair_at.Tie as tie
+use Rattle.words.proofs.pair_at.Statement.{statement}
+use Rattle.words.proofs.pair_at.Tie as tie
 
 mul-result : tie.Need-mul-result
 mul-result c = search needs

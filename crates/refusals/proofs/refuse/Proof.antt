@@ -1,23 +1,17 @@
--- `refusals::show` meets its contract. Assumes nothing.
+-- `refusals::refuse` meets its contract. Assumes nothing.
 use borrow.Author.Needs.{needs}
 use native.Mathlib.Omega.{arith}
 use Prim.Native.Nat.{_-_}
 use mathlib.Core.Path.{_≡_, refl, _∙_}
 use lib.ListN.{length}
-use Rattle.refusals.proofs.show.Statement.{statement}
-use Rattle.refusals.proofs.show.Tie as tie
+use Rattle.refusals.proofs.refuse.Statement.{statement}
+use Rattle.refusals.proofs.refuse.Tie as tie
 
 abbrev Inv-loop : tie.InvT-loop
 Inv-loop h table trees₀ locals₀ bits₀ i₀ trees locals bits i = (length trees ≡ length trees₀) × ((length locals ≡ length locals₀) × (length bits ≡ length bits₀))
 
 abbrev μ-loop : tie.MeasureT-loop
-μ-loop h table trees₀ locals₀ bits₀ i₀ trees locals bits i = 13 - i
-
-slice-aggregate-say : tie.Need-slice-aggregate-say Inv-loop μ-loop
-slice-aggregate-say c = search needs
-
-say-requires : tie.Need-say-requires Inv-loop μ-loop
-say-requires c κs = search needs
+μ-loop h table trees₀ locals₀ bits₀ i₀ trees locals bits i = 10 - i
 
 loop-holds : tie.Need-loop-holds Inv-loop μ-loop
 loop-holds c = (refl, (refl, refl))
@@ -28,8 +22,8 @@ turn-requires c κs = search needs
 answer-requires : tie.Need-answer-requires Inv-loop μ-loop
 answer-requires c κs = search needs
 
-say-requires-2 : tie.Need-say-requires-2 Inv-loop μ-loop
-say-requires-2 c κs = search needs
+say-requires : tie.Need-say-requires Inv-loop μ-loop
+say-requires c κs = search needs
 
 add-i : tie.Need-add-i Inv-loop μ-loop
 add-i c = search needs
@@ -54,18 +48,16 @@ same-length-3 c = c .before .loop .inv .1 .1
 returns : tie.Need-returns Inv-loop μ-loop
 returns c = search needs
 
-pub show-spec : {M : Type 1} → statement M
-show-spec =
+pub refuse-spec : {M : Type 1} → statement M
+refuse-spec =
     tie.close
     (tie.spec
     Inv-loop
     μ-loop
-    slice-aggregate-say
-    say-requires
     loop-holds
     turn-requires
     answer-requires
-    say-requires-2
+    say-requires
     add-i
     loop-less
     loop-again

@@ -1,8 +1,8 @@
--- `words::has_place` meets its contract. Assumes nothing.
+-- `words::configured_in` meets its contract. Assumes nothing.
 use Rattle.rules.specs.Words.{configured}
 use borrow.Author.Needs.{needs}
-use Rattle.words.proofs.has_place.Statement.{statement}
-use Rattle.words.proofs.has_place.Tie as tie
+use Rattle.words.proofs.configured_in.Statement.{statement}
+use Rattle.words.proofs.configured_in.Tie as tie
 
 element-copy-out-wide : tie.Need-element-copy-out-wide
 element-copy-out-wide c = search needs
@@ -15,5 +15,5 @@ unfolding configured
 returns c =
     rw (← c .wide .ensures .0)
 
-pub has-place-spec : {M : Type 1} → statement M
-has-place-spec = tie.close (tie.spec element-copy-out-wide wide-requires returns)
+pub configured-in-spec : {M : Type 1} → statement M
+configured-in-spec = tie.close (tie.spec element-copy-out-wide wide-requires returns)
