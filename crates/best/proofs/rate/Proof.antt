@@ -40,9 +40,9 @@ returns-3 : tie.Need-returns-3
 unfolding rate policy
 returns-3 c = (
   rw (
-    c .before .before .before .before .before .before .before .if1 .left,
-    ← c .before .before .before .before .before .before .size .ensures,
-    le-ltb _ _ (c .before .before .before .before .if2 .left),
+    c .before .before .before .before .before .if1 .left,
+    ← c .before .before .before .before .size .ensures,
+    le-ltb _ _ (c .before .before .if2 .left),
     ← c .before .pair-at .ensures,
     ← c .rated-of .ensures .0,
   ),
