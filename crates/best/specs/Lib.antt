@@ -1,2 +1,3 @@
--- the list of the best in words
+-- the list of the best in words, and a tree inserted into it
 pub mod List
+pub mod Insertion

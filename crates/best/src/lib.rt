@@ -68,17 +68,17 @@ pub fn admit(best: [u64; 8], m: usize, key: usize, t: usize) -> [u64; 8]
     ensures { λ r. ⌜ listOf m r ≡ admit m key t (listOf m best) ⌝ }
 {
     let mut s = best;
-    let mut cur = key as u64 * 0x1_0000_0000 + t as u64;
+    let mut moving = key as u64 * 0x1_0000_0000 + t as u64;
     let mut inside = false;
     let mut k: usize = 0;
     while k < m {
         let y = s[k];
         if inside {
-            s[k] = cur;
-            cur = y;
-        } else if y / 0x1_0000_0000 < cur / 0x1_0000_0000 {
-            s[k] = cur;
-            cur = y;
+            s[k] = moving;
+            moving = y;
+        } else if y / 0x1_0000_0000 < moving / 0x1_0000_0000 {
+            s[k] = moving;
+            moving = y;
             inside = true;
         }
         k += 1;

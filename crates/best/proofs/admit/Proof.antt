@@ -7,26 +7,26 @@ use native.Mathlib.Nat.{sub-zero}
 use mathlib.Core.Bool.{false}
 use Prim.Native.Nat.{_≤_, _-_, _+_, _*_, _^_}
 use lib.ListN.{length}
-use Rattle.best.proofs.Ins.{insN, insN-is, part, part-none, part-end, turn-in, turn-swap, turn-keep}
+use Rattle.best.specs.Insertion.{inserted, inserted-is, insertedFrom, inserted-first, inserted-end, turn-in, turn-swap, turn-keep}
 use Rattle.best.proofs.admit.Statement.{statement}
 use Rattle.best.proofs.admit.Tie as tie
 use Rattle.best.proofs.admit.Reads as reads
 use Rattle.best.proofs.admit.Lts as lts
 
 abbrev Inv-loop : tie.InvT-loop
-Inv-loop m key t s₀ cur₀ inside₀ k₀ s cur inside k = (k ≤ m) × (length s ≡ 8) × (part k (m - k) inside cur s ≡ insN m false (key * 2 ^ 32 + t) s₀)
+Inv-loop m key t s₀ moving₀ inside₀ k₀ s moving inside k = (k ≤ m) × (length s ≡ 8) × (insertedFrom k (m - k) inside moving s ≡ inserted m false (key * 2 ^ 32 + t) s₀)
 
 abbrev μ-loop : tie.MeasureT-loop
-μ-loop m key t s₀ cur₀ inside₀ k₀ s cur inside k = m - k
+μ-loop m key t s₀ moving₀ inside₀ k₀ s moving inside k = m - k
 
-mul-cur : tie.Need-mul-cur Inv-loop μ-loop
-mul-cur c = search needs
+mul-moving : tie.Need-mul-moving Inv-loop μ-loop
+mul-moving c = search needs
 
-add-cur : tie.Need-add-cur Inv-loop μ-loop
-add-cur c = search needs
+add-moving : tie.Need-add-moving Inv-loop μ-loop
+add-moving c = search needs
 
 loop-holds : tie.Need-loop-holds Inv-loop μ-loop
-loop-holds c = (search needs, search needs, rw sub-zero (part-none _ _ _ _))
+loop-holds c = (search needs, search needs, rw sub-zero (inserted-first _ _ _ _))
 
 mul-y : tie.Need-mul-y Inv-loop μ-loop
 mul-y c = search needs
@@ -59,9 +59,9 @@ loop-again c =
     let n = c .before .before .before .args .m in
     let t = c .before .loop-test .taken in
     let p = c .before .before .before .pre .0 in
-    let r = ⊎-elim (λ w. turn-in (l .k) n (l .cur) (l .inside) (l .s) t p (i .1) (i .2) (w .0 .taken) (w .1) (w .2) (w .3))
-    (λ v. ⊎-elim (λ w. turn-swap (l .k) n (l .cur) (l .inside) (l .s) t p (i .1) (i .2) (w .0 .left) (w .1 .taken) (w .2) (w .3) (w .4))
-    (λ w. turn-keep (l .k) n (l .cur) (l .inside) (l .s) t p (i .1) (i .2) (w .0 .left) (w .1 .left) (w .2) (w .3) (w .4)) v)
+    let r = ⊎-elim (λ w. turn-in (l .k) n (l .moving) (l .inside) (l .s) t p (i .1) (i .2) (w .0 .taken) (w .1) (w .2) (w .3))
+    (λ v. ⊎-elim (λ w. turn-swap (l .k) n (l .moving) (l .inside) (l .s) t p (i .1) (i .2) (w .0 .left) (w .1 .taken) (w .2) (w .3) (w .4))
+    (λ w. turn-keep (l .k) n (l .moving) (l .inside) (l .s) t p (i .1) (i .2) (w .0 .left) (w .1 .left) (w .2) (w .3) (w .4)) v)
     (c .if1 .came) in
     (search needs, r .0, r .1)
 
@@ -72,8 +72,8 @@ returns c =
     let p = c .before .before .pre in
     let e : a .m - l .k ≡ 0 = omega arith in
     let long : a .m ≤ length (a .best) = search needs in
-    rw (sym (part-end (l .k) (l .cur) (l .s) (l .inside)) ∙ (rw e at (l .inv .2)))
-    (insN-is (a .key) (a .t) (p .1 .0) (p .1 .1 .1) (a .m) (a .best) long)
+    rw (sym (inserted-end (l .k) (l .moving) (l .s) (l .inside)) ∙ (rw e at (l .inv .2)))
+    (inserted-is (a .key) (a .t) (p .1 .0) (p .1 .1 .1) (a .m) (a .best) long)
 
 pub admit-spec : {M : Type 1} → statement M
 admit-spec =
@@ -81,8 +81,8 @@ admit-spec =
     (tie.spec
     Inv-loop
     μ-loop
-    mul-cur
-    add-cur
+    mul-moving
+    add-moving
     loop-holds
     mul-y
     array-read-y

@@ -1,2 +1,0 @@
--- the insertion in place
-pub mod Ins
