@@ -21,21 +21,6 @@ fn held_words(words: &[u64], at: usize, n: usize) -> usize
     sum
 }
 
-// Whether every frame of n whole words is held.
-pub fn full_words(words: &[u64], at: usize, n: usize) -> bool
-    requires { ⌜ at + n ≤ length (now words) ⌝ }
-    ensures { λ r. ⌜ r ≡ eqb (held (now (words .entry)) (at * 64) (n * 64)) (n * 64) ⌝ }
-{
-    let mut i: usize = 0;
-    while i < n {
-        if words[at + i] != 0xffff_ffff_ffff_ffff {
-            return false;
-        }
-        i += 1;
-    }
-    true
-}
-
 // The first of n words that has a clear bit; the word after them where none has.
 pub fn open_word(words: &[u64], at: usize, n: usize) -> usize
     requires { ⌜ at + n ≤ length (now words) ⌝ }
@@ -49,6 +34,14 @@ pub fn open_word(words: &[u64], at: usize, n: usize) -> usize
         i += 1;
     }
     at + n
+}
+
+// Whether every frame of n whole words is held: none has a clear bit.
+pub fn full_words(words: &[u64], at: usize, n: usize) -> bool
+    requires { ⌜ at + n ≤ length (now words) ⌝ }
+    ensures { λ r. ⌜ r ≡ eqb (held (now (words .entry)) (at * 64) (n * 64)) (n * 64) ⌝ }
+{
+    open_word(words, at, n) == at + n
 }
 
 // The lowest clear bit of a word; 64 where there is none.

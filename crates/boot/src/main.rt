@@ -3,6 +3,7 @@
 // loader does on each, the crate `refusals` a call for each but Stuck.
 use patterns::Pattern;
 use rules::Header;
+use shows::Held;
 use ways::Outcome;
 ghost use mathlib.Core.Path.{_≡_};
 ghost use Rattle.rules.specs.Words.{config};
@@ -30,20 +31,44 @@ fn pattern(n: usize) -> Pattern {
     }
 }
 
-// The calls after an accepted start: the patterns are taken and given back, and after a drain all frames are free again.
-fn serve(h: Header, table: &[u32; 64], trees: &mut [u32], locals: &mut [u64], bits: &mut [u64]) {
+// The patterns are taken in turn.
+fn take_all(
+    h: Header,
+    table: &[u32; 64],
+    trees: &mut [u32],
+    locals: &mut [u64],
+    bits: &mut [u64],
+) -> [Held; 3] {
     let mut held = [shows::nothing(); 3];
     let mut n = 0;
     while n < 3 {
         held[n] = shows::show(h, table, trees, locals, bits, pattern(n));
         n += 1;
     }
-    figures(h, table, trees, locals, bits);
+    held
+}
+
+// What is held of them is given back.
+fn give_all(
+    h: Header,
+    table: &[u32; 64],
+    trees: &mut [u32],
+    locals: &mut [u64],
+    bits: &mut [u64],
+    held: [Held; 3],
+) {
     let mut n = 0;
     while n < 3 {
         shows::give(h, table, trees, locals, bits, pattern(n), held[n]);
         n += 1;
     }
+}
+
+// The calls after an accepted start: the patterns are taken and given back, and after a drain all frames are free again.
+fn serve(h: Header, table: &[u32; 64], trees: &mut [u32], locals: &mut [u64], bits: &mut [u64]) {
+    let held = take_all(h, table, trees, locals, bits);
+    figures(h, table, trees, locals, bits);
+    give_all(h, table, trees, locals, bits, held);
     let drained = drain::drain(h, table, trees, locals, bits);
     says::outcome(b"drain", drained);
     figures(h, table, trees, locals, bits);
@@ -106,6 +131,7 @@ fn show_refusals() {
     refusals::show(h, &table, &mut trees, &mut locals, &mut bits);
 }
 
+// Both boards, then the refusals.
 fn main() {
     boot_board();
     boot_small();

@@ -1,7 +1,7 @@
 // The calls that lines name, on the words lent, and their answers written into a buffer.
 use commands::Call;
 use rules::Header;
-use stores::Held;
+use stores::Setup;
 
 // Statistics with so many rows lent, and their answer.
 fn stats<'a>(
@@ -53,7 +53,7 @@ fn call_on(
 
 // A call, with the lengths lent from now on.
 pub fn call(
-    held: Held,
+    setup: Setup,
     table: &[u32; 64],
     trees: &mut [u32],
     locals: &mut [u64],
@@ -62,12 +62,12 @@ pub fn call(
     out: &mut [u8],
     at: usize,
 ) -> usize {
-    let t = stores::lent_trees(held, trees.len());
-    let l = stores::lent_locals(held, locals.len());
-    let b = stores::lent_bits(held, bits.len());
+    let t = stores::lent_trees(setup, trees.len());
+    let l = stores::lent_locals(setup, locals.len());
+    let b = stores::lent_bits(setup, bits.len());
     call_on(
-        held.h,
-        held.rows,
+        setup.h,
+        setup.rows,
         table,
         &mut trees[0..t],
         &mut locals[0..l],

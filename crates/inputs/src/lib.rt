@@ -31,7 +31,7 @@ pub fn begun() -> Run {
 // Room for an answer more, of at most 198,000 bytes: the answers are written out where fewer are left.
 pub fn room(out: &[u8; 262144], at: usize) -> usize {
     if at > 60000 {
-        prints::start(Program::Runner, out, at);
+        prints::front(Program::Runner, out, at);
         return 0;
     }
     at
@@ -120,7 +120,7 @@ fn say_wrong(buf: &[u8], number: u64, out: &mut [u8]) {
         return;
     }
     let at = answers::wrong(out, 0, number);
-    prints::start(Program::Runner, out, at);
+    prints::front(Program::Runner, out, at);
 }
 
 // The run where a line too long is passed over, up to its line feed.
@@ -184,7 +184,7 @@ fn after_read(buf: &mut [u8], left: usize, r: Run) -> Run {
 
 // More input, once the answers are written.
 pub fn more(buf: &mut [u8; 65536], r: Run, out: &mut [u8; 262144]) -> Run {
-    prints::start(Program::Runner, out, r.at);
+    prints::front(Program::Runner, out, r.at);
     if r.ended {
         return with_input(r, 0, true, true);
     }

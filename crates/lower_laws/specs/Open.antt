@@ -1,6 +1,6 @@
 -- The first word from a row on that has a clear bit: a search for a small block upward from the row may begin there. Assumes nothing.
 use mathlib.Core.Path.{_≡_, refl, sym, ap, _∙_}
-use mathlib.Core.Bool.{Bool, false, not}
+use mathlib.Core.Bool.{Bool, true, false, not}
 use mathlib.Core.Logic.{⊎-elim}
 use mathlib.Core.List.{List}
 use Prim.Native.Nat.{ℕ, suc, _+_, _-_, _*_, _/_, _%_, _^_, _<_, _≤_}
@@ -9,16 +9,17 @@ use native.Mathlib.Omega.{arith}
 use lib.Dec.{eqb, leb}
 use lib.ListN.{getD}
 use lib.Pow.{pow-pos, pow-add, split, shl-shr, shr-mono}
-use borrow.Author.Tests.{lt-leb, ne-eqb, eq-eqb, eqb-true, not-false}
+use borrow.Author.Tests.{lt-leb, ne-eqb, eq-eqb, eqb-true, eqb-false, not-false}
 use Rattle.rules.specs.Base.{firstIn}
 use Rattle.rules.specs.Words.{treeRows}
-use Rattle.rules.specs.Lower.{held, heldIn, hit}
+use Rattle.rules.specs.Lower.{bit, held, heldIn, hit}
 use Rattle.rules.specs.declared.Found.{Found}
 use Rattle.rules.specs.declared.Found.the-variants.{At, Nothing}
 use Rattle.policy_laws.specs.All.{both-false}
 use Rattle.lower_laws.specs.Cases.{below-or}
 use Rattle.lower_laws.specs.Power.{inside, row-block, row-first}
-use Rattle.lower_laws.specs.Held.{held-whole}
+use Rattle.lower_laws.specs.Sum.{sum-all, one-at}
+use Rattle.lower_laws.specs.Held.{bit-le, held-whole}
 use Rattle.lower_laws.specs.Ones.{ones-every}
 use Rattle.lower_laws.specs.Run.{held-part-of}
 use Rattle.lower_laws.specs.First.{first-none, first-at, first-skip, first-sound, first-least, first-empty}
@@ -71,6 +72,19 @@ opened ws a n q e = go (firstIn (hasClear ws) a n) refl e
         let s = first-sound (hasClear ws) a n j d in
         record { low = omega (arith, s .low); high = omega (arith, s .high); full = λ w x y. full-at w (first-least (hasClear ws) a n j d w x (omega arith)) }
     go Nothing d r = record { low = omega arith; high = omega arith; full = λ w x y. full-at w (first-empty (hasClear ws) a n d w x (omega arith)) }
+
+-- where none has one, the run is wholly held
+whole : (ws : List ℕ) (a n : ℕ) → Opened ws a n (a + n) → held ws (a * 64) (n * 64) ≡ n * 64
+unfolding held heldIn
+whole ws a n p = sum-all (bit ws) (a * 64) (n * 64) (λ g r s. one-at (bit ws) (g / 64 * 64) 64 (bit-le ws) (p .full (g / 64) (omega arith) (omega arith)) g (omega arith) (omega arith))
+
+-- and the other way round
+pub open-full : (ws : List ℕ) (a n q : ℕ) → q ≡ openFrom ws a n → eqb q (a + n) ≡ eqb (held ws (a * 64) (n * 64)) (n * 64)
+open-full ws a n q e = go (eqb (held ws (a * 64) (n * 64)) (n * 64)) refl
+  where
+    go : (b : Bool) → eqb (held ws (a * 64) (n * 64)) (n * 64) ≡ b → eqb q (a + n) ≡ b
+    go true f = eq-eqb q (a + n) (e ∙ sym (open-end ws a n (eqb-true _ _ f)))
+    go false f = ne-eqb q (a + n) (λ z. eqb-false _ _ f (whole ws a n (opened ws a n (a + n) (sym z ∙ e))))
 
 -- the blocks of a small order o in the words before q: none is a hit of the search from the row
 module _ (ws : List ℕ) (o row n q : ℕ) (h : o < 6) (p : Opened ws row n q) where

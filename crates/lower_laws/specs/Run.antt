@@ -33,13 +33,6 @@ held-some ws at n i l h f = ne-eqb _ _ (λ z.
     let e : held ws ((at + i) * 64) 64 ≡ 0 = free-part-of ws (at * 64) (n * 64) ((at + i) * 64) 64 z (omega arith) (omega arith) in
     f (ones-none 64 _ h (sym (held-whole ws (at + i) h) ∙ e)))
 
--- a word that is not all ones: the run is not wholly held
-pub free-some : (ws : List ℕ) (at n i : ℕ) → i < n → getD ws (at + i) 0 < 2 ^ 64 → (getD ws (at + i) 0 ≡ 2 ^ 64 - 1 → ⊥) → eqb (held ws (at * 64) (n * 64)) (n * 64) ≡ false
-free-some ws at n i l h f = ne-eqb _ _ (λ z.
-    let e : held ws ((at + i) * 64) 64 ≡ 64 = held-part-of ws (at * 64) (n * 64) ((at + i) * 64) 64 z (omega arith) (omega arith) in
-    let q : getD ws (at + i) 0 + 1 ≡ 2 ^ 64 = ones-every 64 _ h (sym (held-whole ws (at + i) h) ∙ e) in
-    f (omega arith))
-
 -- one word more
 pub zero-more : (ws : List ℕ) (at i : ℕ) → held ws (at * 64) (i * 64) ≡ 0 → getD ws (at + i) 0 ≡ 0 → held ws (at * 64) ((i + 1) * 64) ≡ 0
 zero-more ws at i e z =

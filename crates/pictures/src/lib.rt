@@ -2,7 +2,7 @@
 use commands::Show;
 use prints::Program;
 use rules::Header;
-use stores::Held;
+use stores::Setup;
 
 mod look;
 
@@ -21,7 +21,7 @@ fn show_these<'a>(
         Show::Dump => dumps::dump(trees, locals, bits, out, at),
         Show::Sum => dumps::sum(trees, locals, bits, out, at),
         Show::Look => {
-            prints::start(Program::Runner, out, at);
+            prints::front(Program::Runner, out, at);
             look::look(h, table, trees, locals, bits);
             0
         }
@@ -30,7 +30,7 @@ fn show_these<'a>(
 
 // The answer to a line that looks, at the words lent.
 pub fn show<'a>(
-    held: Held,
+    setup: Setup,
     table: &'a [u32; 64],
     trees: &'a [u32],
     locals: &'a [u64],
@@ -39,11 +39,11 @@ pub fn show<'a>(
     out: &mut [u8],
     at: usize,
 ) -> usize {
-    let t = stores::lent_trees(held, trees.len());
-    let l = stores::lent_locals(held, locals.len());
-    let b = stores::lent_bits(held, bits.len());
+    let t = stores::lent_trees(setup, trees.len());
+    let l = stores::lent_locals(setup, locals.len());
+    let b = stores::lent_bits(setup, bits.len());
     show_these(
-        held.h,
+        setup.h,
         table,
         &trees[0..t],
         &locals[0..l],

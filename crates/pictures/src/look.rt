@@ -52,7 +52,7 @@ fn margin(i: usize) {
     let mut text = [0u8; 20];
     let to = texts::put_padded(&mut text, 0, i as u64, 3);
     prints::text(Program::Runner, b"\n  ");
-    prints::start(Program::Runner, &text, to);
+    prints::front(Program::Runner, &text, to);
 }
 
 // What stands before a tree's cell: at each twentieth a new line and its number.

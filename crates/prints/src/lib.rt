@@ -32,7 +32,7 @@ pub fn text(program: Program, bytes: &[u8]) {
 }
 
 // Writes the first `to` bytes of a text.
-pub fn start(program: Program, bytes: &[u8], to: usize) {
+pub fn front(program: Program, bytes: &[u8], to: usize) {
     if to <= bytes.len() {
         text(program, &bytes[0..to]);
     }
@@ -47,7 +47,7 @@ fn number(program: Program, n: usize) {
 pub fn name(program: Program, n: usize) {
     let mut bytes = [0u8; 16];
     let to = names::name(&mut bytes, 0, n);
-    start(program, &bytes, to);
+    front(program, &bytes, to);
 }
 
 // The first place of a sign in a text, at or after `from`; the length where there is none.

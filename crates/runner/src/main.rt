@@ -1,13 +1,13 @@
 // The line runner: reads lines from standard input, makes the calls that they name on one store, and writes the answers to standard output.
 use commands::Command;
 use inputs::Run;
-use stores::Held;
+use stores::Setup;
 
 // What a line says, done, but for what it sets; the place past its answer.
 fn obey(
     c: Command,
     r: Run,
-    held: Held,
+    setup: Setup,
     table: &mut [u32; 64],
     trees: &mut [u32; 200],
     locals: &mut [u64; 256],
@@ -23,8 +23,8 @@ fn obey(
             stores::store(table, trees, locals, bits, s);
             at
         }
-        Command::Call(c) => calls::call(held, table, trees, locals, bits, c, out, at),
-        Command::Show(s) => pictures::show(held, table, trees, locals, bits, s, out, at),
+        Command::Call(c) => calls::call(setup, table, trees, locals, bits, c, out, at),
+        Command::Show(s) => pictures::show(setup, table, trees, locals, bits, s, out, at),
     }
 }
 
@@ -37,7 +37,7 @@ fn main() {
     let mut buf = [0u8; 65536];
     let mut out = [0u8; 262144];
     let mut turns = u64::MAX;
-    let mut held = stores::begun();
+    let mut setup = stores::begun();
     let mut r = inputs::begun();
     while 0 < turns {
         turns -= 1;
@@ -47,14 +47,14 @@ fn main() {
             let to = obey(
                 c,
                 r,
-                held,
+                setup,
                 &mut table,
                 &mut trees,
                 &mut locals,
                 &mut bits,
                 &mut out,
             );
-            held = stores::after(held, c);
+            setup = stores::after(setup, c);
             r = inputs::past(r, e, to);
         } else {
             r = inputs::more(&mut buf, r, &mut out);

@@ -5,8 +5,8 @@ use commands::Store;
 use rules::Header;
 ghost use Prim.Native.Nat.{_<_, _+_, _≤_};
 
-// The store but its words: the header, the lengths lent (plus one; 0 is the exact one), and the tally rows lent.
-pub struct Held {
+// What set-up lines set, the store but its words: the header, the lengths lent (plus one; 0 is the exact one), and the tally rows lent.
+pub struct Setup {
     pub h: Header,
     pub trees: usize,
     pub locals: usize,
@@ -15,8 +15,8 @@ pub struct Held {
 }
 
 // At the beginning all is zero, and the exact lengths and eight rows are lent.
-pub fn begun() -> Held {
-    Held {
+pub fn begun() -> Setup {
+    Setup {
         h: Header {
             frames: 0,
             default: 0,
@@ -43,35 +43,35 @@ fn placed(h: Header, class: usize, place: u8) -> Header {
 }
 
 // The store with another header.
-fn with_header(held: Held, h: Header) -> Held {
-    Held {
+fn with_header(setup: Setup, h: Header) -> Setup {
+    Setup {
         h: h,
-        trees: held.trees,
-        locals: held.locals,
-        bits: held.bits,
-        rows: held.rows,
+        trees: setup.trees,
+        locals: setup.locals,
+        bits: setup.bits,
+        rows: setup.rows,
     }
 }
 
 // The store with other lengths lent.
-fn lent(held: Held, trees: usize, locals: usize, bits: usize) -> Held {
-    let h = held.h;
-    Held {
+fn lent(setup: Setup, trees: usize, locals: usize, bits: usize) -> Setup {
+    let h = setup.h;
+    Setup {
         h: h,
         trees: trees,
         locals: locals,
         bits: bits,
-        rows: held.rows,
+        rows: setup.rows,
     }
 }
 
 // A set-up line.
-fn set(held: Held, s: Setting) -> Held {
-    let h = held.h;
+fn set(setup: Setup, s: Setting) -> Setup {
+    let h = setup.h;
     let places = h.places;
     match s {
         Setting::Frames(f) => with_header(
-            held,
+            setup,
             Header {
                 frames: f,
                 default: h.default,
@@ -79,34 +79,34 @@ fn set(held: Held, s: Setting) -> Held {
             },
         ),
         Setting::Default(d) => with_header(
-            held,
+            setup,
             Header {
                 frames: h.frames,
                 default: d,
                 places: places,
             },
         ),
-        Setting::Class { class, place } => with_header(held, placed(h, class, place)),
+        Setting::Class { class, place } => with_header(setup, placed(h, class, place)),
         Setting::Lend {
             trees,
             locals,
             bits,
-        } => lent(held, trees, locals, bits),
-        Setting::Rows(r) => Held {
+        } => lent(setup, trees, locals, bits),
+        Setting::Rows(r) => Setup {
             h: h,
-            trees: held.trees,
-            locals: held.locals,
-            bits: held.bits,
+            trees: setup.trees,
+            locals: setup.locals,
+            bits: setup.bits,
             rows: r,
         },
     }
 }
 
 // The store after a line: a set-up line changes it.
-pub fn after(held: Held, c: Command) -> Held {
+pub fn after(setup: Setup, c: Command) -> Setup {
     match c {
-        Command::Set(s) => set(held, s),
-        _ => held,
+        Command::Set(s) => set(setup, s),
+        _ => setup,
     }
 }
 
@@ -176,33 +176,33 @@ fn exact_trees(frames: usize) -> usize
 }
 
 // The tree words lent, of so many that there are.
-pub fn lent_trees(held: Held, most: usize) -> usize
+pub fn lent_trees(setup: Setup, most: usize) -> usize
     ensures { λ r. ⌜ r ≤ most ⌝ }
 {
-    if held.trees > 0 {
-        return at_most(held.trees - 1, most);
+    if setup.trees > 0 {
+        return at_most(setup.trees - 1, most);
     }
-    let h = held.h;
+    let h = setup.h;
     at_most(exact_trees(h.frames), most)
 }
 
 // The local words lent, of so many that there are.
-pub fn lent_locals(held: Held, most: usize) -> usize
+pub fn lent_locals(setup: Setup, most: usize) -> usize
     ensures { λ r. ⌜ r ≤ most ⌝ }
 {
-    if held.locals > 0 {
-        return at_most(held.locals - 1, most);
+    if setup.locals > 0 {
+        return at_most(setup.locals - 1, most);
     }
-    at_most(words::local_count(held.h), most)
+    at_most(words::local_count(setup.h), most)
 }
 
 // The bitmap words lent, of so many that there are.
-pub fn lent_bits(held: Held, most: usize) -> usize
+pub fn lent_bits(setup: Setup, most: usize) -> usize
     ensures { λ r. ⌜ r ≤ most ⌝ }
 {
-    if held.bits > 0 {
-        return at_most(held.bits - 1, most);
+    if setup.bits > 0 {
+        return at_most(setup.bits - 1, most);
     }
-    let h = held.h;
+    let h = setup.h;
     at_most(32 * exact_trees(h.frames), most)
 }

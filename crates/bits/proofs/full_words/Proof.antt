@@ -1,59 +1,17 @@
 -- `bits::full_words` meets its contract. Assumes nothing.
 use borrow.Author.Needs.{needs}
-use mathlib.Core.Path.{_≡_, sym}
-use Prim.Native.Nat.{_≤_, _-_, _*_, _+_}
-use native.Mathlib.Omega.{arith}
-use borrow.Author.Tests.{eq-eqb}
-use Rattle.rules.specs.Lower.{held}
-use Rattle.lower_laws.specs.Run.{run-none, free-some, full-more}
+use Rattle.lower_laws.specs.Open.{open-full}
 use Rattle.bits.proofs.full_words.Statement.{statement}
 use Rattle.bits.proofs.full_words.Tie as tie
 
-abbrev Inv-loop : tie.InvT-loop
-Inv-loop words at n i₀ i = (i ≤ n) × (held words (at * 64) (i * 64) ≡ i * 64)
+open-word-requires : tie.Need-open-word-requires
+open-word-requires c κs = search needs
 
-abbrev μ-loop : tie.MeasureT-loop
-μ-loop words at n i₀ i = n - i
+add-result : tie.Need-add-result
+add-result c = search needs
 
-loop-holds : tie.Need-loop-holds Inv-loop μ-loop
-loop-holds c = (search needs, run-none (c .args .words .now) (c .args .at * 64))
-
-add-if1 : tie.Need-add-if1 Inv-loop μ-loop
-add-if1 c = search needs
-
-mul-if1 : tie.Need-mul-if1 Inv-loop μ-loop
-mul-if1 c = search needs
-
-shared-slice-read-if1 : tie.Need-shared-slice-read-if1 Inv-loop μ-loop
-shared-slice-read-if1 c = search needs
-
-returns : tie.Need-returns Inv-loop μ-loop
-returns c = sym (free-some (c .before .before .before .before .args .words .now) (c .before .before .before .before .args .at) (c .before .before .before .before .args .n) (c .before .before .before .loop .i) (c .before .before .loop-test .taken) (omega (arith, c .before .shared-slice-known .given (c .before .before .before .before .args .at + c .before .before .before .loop .i))) (c .if1 .taken))
-
-add-i : tie.Need-add-i Inv-loop μ-loop
-add-i c = search needs
-
-loop-less : tie.Need-loop-less Inv-loop μ-loop
-loop-less c = search needs
-
-loop-again : tie.Need-loop-again Inv-loop μ-loop
-loop-again c = (search needs, full-more (c .before .before .before .before .args .words .now) (c .before .before .before .before .args .at) (c .before .before .before .loop .i) (c .before .before .before .loop .inv .1) (c .if1 .left))
-
-returns-2 : tie.Need-returns-2 Inv-loop μ-loop
-returns-2 c = let q : c .before .loop .i ≡ c .before .before .args .n = omega arith in sym (eq-eqb _ _ (rw q at (c .before .loop .inv .1)))
+returns : tie.Need-returns
+returns c = open-full _ _ _ _ (c .open-word .ensures)
 
 pub full-words-spec : {M : Type 1} → statement M
-full-words-spec =
-    tie.close
-    (tie.spec
-    Inv-loop
-    μ-loop
-    loop-holds
-    add-if1
-    mul-if1
-    shared-slice-read-if1
-    returns
-    add-i
-    loop-less
-    loop-again
-    returns-2)
+full-words-spec = tie.close (tie.spec open-word-requires add-result returns)

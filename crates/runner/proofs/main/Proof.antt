@@ -5,10 +5,10 @@ use Rattle.runner.proofs.main.Statement.{statement}
 use Rattle.runner.proofs.main.Tie as tie
 
 abbrev Inv-loop : tie.InvT-loop
-Inv-loop table₀ trees₀ locals₀ bits₀ buf₀ out₀ turns₀ held₀ r₀ table trees locals bits buf out turns held r = Unit {0}
+Inv-loop table₀ trees₀ locals₀ bits₀ buf₀ out₀ turns₀ setup₀ r₀ table trees locals bits buf out turns setup r = Unit {0}
 
 abbrev μ-loop : tie.MeasureT-loop
-μ-loop table₀ trees₀ locals₀ bits₀ buf₀ out₀ turns₀ held₀ r₀ table trees locals bits buf out turns held r = turns
+μ-loop table₀ trees₀ locals₀ bits₀ buf₀ out₀ turns₀ setup₀ r₀ table trees locals bits buf out turns setup r = turns
 
 begun-requires : tie.Need-begun-requires Inv-loop μ-loop
 begun-requires c κs = search needs
