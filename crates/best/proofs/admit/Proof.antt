@@ -10,8 +10,6 @@ use lib.ListN.{length}
 use Rattle.best.proofs.Ins.{insN, insN-is, part, part-none, part-end, turn-in, turn-swap, turn-keep}
 use Rattle.best.proofs.admit.Statement.{statement}
 use Rattle.best.proofs.admit.Tie as tie
-use Rattle.best.proofs.admit.Reads as reads
-use Rattle.best.proofs.admit.Lts as lts
 
 abbrev Inv-loop : tie.InvT-loop
 Inv-loop m key t s₀ cur₀ inside₀ k₀ s cur inside k = (k ≤ m) × (length s ≡ 8) × (part k (m - k) inside cur s ≡ insN m false (key * 2 ^ 32 + t) s₀)
