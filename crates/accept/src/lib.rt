@@ -1,4 +1,4 @@
-// The acceptance test of header and policy table, made at each exported call: one pass over the table.
+// The acceptance test of header and policy table, made at each exported call: the table row by row.
 use rules::Header;
 ghost use mathlib.Core.Path.{_≡_};
 ghost use Rattle.rules.specs.Base.{allBelow};

@@ -15,10 +15,11 @@ use Rattle.tells.specs.declared.Stats.{Stats}
 unfoldable pub outcomeText : List ℕ → Outcome → List ℕ
 outcomeText call o = call ++ nameAt (outcomeOf o) ++ end
 
--- the answer to statistics: the rows follow where they are filled
+-- a row of the statistics
 unfoldable pub rowText : ℕ → Tally → List ℕ
 rowText c t = field "row " c ++ field " free " (t .free) ++ field " alloc " (t .alloc) ++ field " used " (t .used) ++ end
 
+-- the eight rows
 unfoldable pub rowsText : Rows → List ℕ
 rowsText r =
     rowText 0 (r .r0)
@@ -30,13 +31,16 @@ rowsText r =
     ++ rowText 6 (r .r6)
     ++ rowText 7 (r .r7)
 
+-- the rows, where they are filled
 unfoldable pub rowsIf : Bool → Rows → List ℕ
 rowsIf true r = rowsText r
 rowsIf false r = []
 
+-- the line of the totals
 unfoldable pub totalsText : Totals → List ℕ
 totalsText t = say "stats " ++ nameAt (outcomeOf (t .outcome)) ++ field " free " (t .free) ++ field " trees " (t .trees) ++ end
 
+-- the answer to statistics: the rows follow where they are filled
 unfoldable pub statsText : Stats → List ℕ
 statsText r = totalsText (r .totals) ++ rowsIf (r .done) (r .rows)
 

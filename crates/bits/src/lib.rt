@@ -1,6 +1,6 @@
 // The bitmap's words, counted and passed over: 32 words a tree, bit i of word w is frame 64 w + i, 1 means held.
 ghost use mathlib.Core.Path.{_≡_};
-ghost use Prim.Native.Nat.{_+_, _-_, _*_, _^_, _≤_};
+ghost use Prim.Native.Nat.{_+_, _-_, _*_, _≤_};
 ghost use lib.ListN.{length};
 ghost use lib.Dec.{eqb};
 ghost use Rattle.rules.specs.Lower.{held, clear};

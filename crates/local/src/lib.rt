@@ -1,4 +1,4 @@
-// The lent words of the locals, read and stored. Total: a local that is not there reads as absent, and a store to it does nothing.
+// The lent words of the locals, read and stored; and whether a row lies in the named frame's tree. Total: a local that is not there reads as absent, and a store to it does nothing.
 use rules::Local;
 use rules::Name;
 ghost use mathlib.Core.Path.{_≡_};

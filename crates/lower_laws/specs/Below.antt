@@ -1,4 +1,4 @@
--- Where every frame from f on is held, a free block lies below f; and a block below f that is marked leaves them held. Assumes nothing.
+-- Where every frame from f on is held, a wholly free block ends at f or before it. Assumes nothing.
 use mathlib.Core.Path.{_≡_}
 use mathlib.Core.Logic.{⊎-elim}
 use mathlib.Core.List.{List}

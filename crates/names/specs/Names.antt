@@ -35,7 +35,7 @@ names =
 unfoldable pub nameAt : ℕ → List ℕ
 nameAt n = getD names n []
 
--- there is no twelfth name
+-- no number from 12 on has a name
 pub no-name : (n : ℕ) → 12 ≤ n → nameAt n ≡ []
 unfolding nameAt names
 no-name n h = List·getD-eq-default names [] h

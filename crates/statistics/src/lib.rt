@@ -2,7 +2,6 @@
 use rules::Header;
 use ways::Tally;
 use ways::Totals;
-ghost use mathlib.Core.Path.{_≡_};
 ghost use Rattle.ways.specs.Promises.{words, StatisticsPromise};
 
 // Statistics. A function over a lent slice of structs is proved by a walk of its code: so it is thin, one call, one test and eight stores.

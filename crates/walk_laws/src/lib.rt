@@ -1,1 +1,1 @@
-// No function: laws of the walk are in specs/.
+// Laws of the walk, its looks and the list of the best: in specs/. No function.

@@ -1,4 +1,4 @@
--- `bench_parts::bench_clear` meets its contract. Assumes nothing.
+-- `bench_parts::bench_clear` is safe and ends. Assumes nothing.
 use Prim.Native.Nat.{_-_}
 use borrow.Author.Needs.{needs}
 use Rattle.bench_parts.proofs.bench_clear.Statement.{statement}

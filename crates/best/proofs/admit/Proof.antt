@@ -10,8 +10,6 @@ use lib.ListN.{length}
 use Rattle.best.specs.Insertion.{inserted, inserted-is, insertedFrom, inserted-first, inserted-end, turn-in, turn-swap, turn-keep}
 use Rattle.best.proofs.admit.Statement.{statement}
 use Rattle.best.proofs.admit.Tie as tie
-use Rattle.best.proofs.admit.Reads as reads
-use Rattle.best.proofs.admit.Lts as lts
 
 abbrev Inv-loop : tie.InvT-loop
 Inv-loop m key t s₀ moving₀ inside₀ k₀ s moving inside k = (k ≤ m) × (length s ≡ 8) × (insertedFrom k (m - k) inside moving s ≡ inserted m false (key * 2 ^ 32 + t) s₀)

@@ -4,8 +4,6 @@ use borrow.Author.Tests.{eq-eqb, ne-eqb}
 use borrow.Author.Needs.{needs}
 use Rattle.best.proofs.key.Statement.{statement}
 use Rattle.best.proofs.key.Tie as tie
-use Rattle.best.proofs.key.Reads as reads
-use Rattle.best.proofs.key.Lts as lts
 
 mul-result : tie.Need-mul-result
 mul-result c = search needs

@@ -8,9 +8,6 @@ use borrow.Author.Tests.{eq-eqb, ne-eqb}
 use borrow.Author.Needs.{needs}
 use Rattle.best.proofs.place.Statement.{statement}
 use Rattle.best.proofs.place.Tie as tie
-use Rattle.best.proofs.place.Reads as reads
-use Rattle.best.proofs.place.Lts as lts
-use Rattle.best.proofs.within.Reads as within-reads
 
 add-within : tie.Need-add-within
 add-within c = search needs

@@ -5,11 +5,6 @@ use borrow.Author.Tests.{le-ltb, lt-ltb}
 use borrow.Author.Needs.{needs}
 use Rattle.best.proofs.rate.Statement.{statement}
 use Rattle.best.proofs.rate.Tie as tie
-use Rattle.best.proofs.rate.Reads as reads
-use Rattle.best.proofs.rate.Lts as lts
-use Rattle.words.proofs.pair_at.Reads as pair-at-reads
-use Rattle.ratings.proofs.rated_of.Reads as rated-of-reads
-use Rattle.sizes.proofs.size.Reads as size-reads
 
 returns : tie.Need-returns
 unfolding rate policy

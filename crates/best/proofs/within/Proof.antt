@@ -4,8 +4,6 @@ use native.Mathlib.Nat.{mod-lt, mod-eq-of-lt, mod-eq-sub-mod}
 use borrow.Author.Needs.{needs}
 use Rattle.best.proofs.within.Statement.{statement}
 use Rattle.best.proofs.within.Tie as tie
-use Rattle.best.proofs.within.Reads as reads
-use Rattle.best.proofs.within.Lts as lts
 
 returns : tie.Need-returns
 returns c =

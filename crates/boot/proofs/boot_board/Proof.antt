@@ -1,4 +1,4 @@
--- `boot::boot_board` meets its contract. Assumes nothing.
+-- `boot::boot_board` is safe and ends. Assumes nothing.
 use borrow.Author.Needs.{needs}
 use Rattle.patterns.specs.Board.{ready-from, ready-board}
 use Rattle.boot.proofs.boot_board.Statement.{statement}

@@ -1,4 +1,4 @@
--- `boot::boot_small` meets its contract. Assumes nothing.
+-- `boot::boot_small` is safe and ends. Assumes nothing.
 use borrow.Author.Needs.{needs}
 use Rattle.patterns.specs.Board.{ready-from, ready-small}
 use Rattle.boot.proofs.boot_small.Statement.{statement}

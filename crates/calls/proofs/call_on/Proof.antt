@@ -1,4 +1,4 @@
--- `calls::call_on` meets its contract. Assumes nothing.
+-- `calls::call_on` is safe and ends. Assumes nothing.
 use borrow.Author.Needs.{needs}
 use mathlib.Core.Path.{refl}
 use Rattle.calls.proofs.call_on.Statement.{statement}

@@ -1,4 +1,4 @@
--- `dumps::dump_trees` meets its contract. Assumes nothing.
+-- `dumps::dump_trees` is safe and ends. Assumes nothing.
 use borrow.Author.Needs.{needs}
 use Prim.Native.Nat.{_-_}
 use mathlib.Core.Path.{_≡_}

@@ -1,4 +1,4 @@
--- `lines::decimal` meets its contract. Assumes nothing.
+-- `lines::decimal` is safe and ends. Assumes nothing.
 use borrow.Author.Needs.{needs}
 use Prim.Native.Nat.{_-_}
 use lib.ListN.{length}

@@ -1,4 +1,4 @@
--- `lines::hexadecimal` meets its contract. Assumes nothing.
+-- `lines::hexadecimal` is safe and ends. Assumes nothing.
 use borrow.Author.Needs.{needs}
 use Prim.Native.Nat.{_-_}
 use lib.ListN.{length}

@@ -1,4 +1,4 @@
--- `lines::is` meets its contract. Assumes nothing.
+-- `lines::is` is safe and ends. Assumes nothing.
 use borrow.Author.Needs.{needs}
 use Prim.Native.Nat.{_-_}
 use mathlib.Core.Path.{_≡_}

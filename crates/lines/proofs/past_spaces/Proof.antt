@@ -1,4 +1,4 @@
--- `lines::past_spaces` meets its contract. Assumes nothing.
+-- `lines::past_spaces` is safe and ends. Assumes nothing.
 use borrow.Author.Needs.{needs}
 use Prim.Native.Nat.{_-_}
 use lib.ListN.{length}

@@ -1,4 +1,4 @@
--- `lines::place` meets its contract. Assumes nothing.
+-- `lines::place` is safe and ends. Assumes nothing.
 use borrow.Author.Needs.{needs}
 use native.Mathlib.Omega.{arith}
 use Prim.Native.Nat.{_-_}

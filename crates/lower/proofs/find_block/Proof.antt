@@ -6,11 +6,6 @@ use Rattle.rules.specs.Lower.{lowerFind}
 use borrow.Author.Needs.{needs}
 use Rattle.lower.proofs.find_block.Statement.{statement}
 use Rattle.lower.proofs.find_block.Tie as tie
-use Rattle.lower.proofs.find_block.Reads as reads
-use Rattle.lower.proofs.find_block.Lts as lts
-use Rattle.bit_blocks.proofs.is_free.Reads as is-free-reads
-use Rattle.lower_seeks.proofs.find.Reads as find-reads
-use Rattle.lower.proofs.has_tree.Reads as has-tree-reads
 
 enum-told : tie.Need-enum-told
 enum-told c = search needs

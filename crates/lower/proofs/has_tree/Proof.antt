@@ -3,8 +3,6 @@ use Rattle.rules.specs.Lower.{hasTree}
 use borrow.Author.Tests.{le-leb, lt-leb}
 use Rattle.lower.proofs.has_tree.Statement.{statement}
 use Rattle.lower.proofs.has_tree.Tie as tie
-use Rattle.lower.proofs.has_tree.Reads as reads
-use Rattle.lower.proofs.has_tree.Lts as lts
 
 returns : tie.Need-returns
 unfolding hasTree

@@ -7,11 +7,6 @@ use Rattle.rules.specs.Lower.{lowerGet, lowerTake}
 use borrow.Author.Needs.{needs}
 use Rattle.lower.proofs.lower_get.Statement.{statement}
 use Rattle.lower.proofs.lower_get.Tie as tie
-use Rattle.lower.proofs.lower_get.Reads as reads
-use Rattle.lower.proofs.lower_get.Lts as lts
-use Rattle.bit_fills.proofs.hold.Reads as hold-reads
-use Rattle.sizes.proofs.size.Reads as size-reads
-use Rattle.lower.proofs.find_block.Reads as find-block-reads
 
 find-block-requires : tie.Need-find-block-requires
 find-block-requires c κs = search needs

@@ -7,11 +7,6 @@ use Rattle.lower_laws.specs.Lower.{frame-block}
 use borrow.Author.Needs.{needs}
 use Rattle.lower.proofs.lower_put.Statement.{statement}
 use Rattle.lower.proofs.lower_put.Tie as tie
-use Rattle.lower.proofs.lower_put.Reads as reads
-use Rattle.lower.proofs.lower_put.Lts as lts
-use Rattle.lower.proofs.has_tree.Reads as has-tree-reads
-use Rattle.bit_blocks.proofs.is_held.Reads as is-held-reads
-use Rattle.bit_fills.proofs.release.Reads as release-reads
 
 has-tree-requires : tie.Need-has-tree-requires
 has-tree-requires c κs = search needs

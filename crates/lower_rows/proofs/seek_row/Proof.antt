@@ -4,10 +4,6 @@ use Rattle.lower_laws.specs.Word.{word-mul, word-found, word-none}
 use borrow.Author.Needs.{needs}
 use Rattle.lower_rows.proofs.seek_row.Statement.{statement}
 use Rattle.lower_rows.proofs.seek_row.Tie as tie
-use Rattle.lower_rows.proofs.seek_row.Reads as reads
-use Rattle.lower_rows.proofs.seek_row.Lts as lts
-use Rattle.sizes.proofs.size.Reads as size-reads
-use Rattle.lower_rows.proofs.first_block.Reads as first-block-reads
 
 mul-first-block : tie.Need-mul-first-block
 mul-first-block c = search needs

@@ -6,10 +6,6 @@ use Rattle.lower_laws.specs.Search.{hint-free, hint-block, seek-hint, seek-roun
 use borrow.Author.Needs.{needs}
 use Rattle.lower_seeks.proofs.find.Statement.{statement}
 use Rattle.lower_seeks.proofs.find.Tie as tie
-use Rattle.lower_seeks.proofs.find.Reads as reads
-use Rattle.lower_seeks.proofs.find.Lts as lts
-use Rattle.bit_blocks.proofs.is_free.Reads as is-free-reads
-use Rattle.lower_seeks.proofs.upward.Reads as upward-reads
 
 mul-from : tie.Need-mul-from
 mul-from c = search needs

@@ -4,9 +4,6 @@ use Rattle.lower_laws.specs.Seek.{passedBy}
 use borrow.Author.Needs.{needs}
 use Rattle.lower_seeks.proofs.passed.Statement.{statement}
 use Rattle.lower_seeks.proofs.passed.Tie as tie
-use Rattle.lower_seeks.proofs.passed.Reads as reads
-use Rattle.lower_seeks.proofs.passed.Lts as lts
-use Rattle.bit_blocks.proofs.is_held.Reads as is-held-reads
 
 sub-if1 : tie.Need-sub-if1
 sub-if1 c = search needs

@@ -4,11 +4,6 @@ use Rattle.lower_laws.specs.Open.{opened, open-none, open-found}
 use borrow.Author.Needs.{needs}
 use Rattle.lower_seeks.proofs.upward.Statement.{statement}
 use Rattle.lower_seeks.proofs.upward.Tie as tie
-use Rattle.lower_seeks.proofs.upward.Reads as reads
-use Rattle.lower_seeks.proofs.upward.Lts as lts
-use Rattle.bits.proofs.open_word.Reads as open-word-reads
-use Rattle.lower_seeks.proofs.seek.Reads as seek-reads
-use Rattle.lower_rows.proofs.seek_row.Reads as seek-row-reads
 
 mul-end : tie.Need-mul-end
 mul-end c = search needs

@@ -1,6 +1,6 @@
--- `prints::form` meets its contract. Assumes nothing.
+-- `prints::form` is safe and ends. Assumes nothing.
 use borrow.Author.Needs.{needs}
-use Prim.Native.Nat.{_-_, _≤_}
+use Prim.Native.Nat.{_-_}
 use lib.ListN.{length}
 use Rattle.prints.proofs.form.Statement.{statement}
 use Rattle.prints.proofs.form.Tie as tie

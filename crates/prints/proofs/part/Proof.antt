@@ -1,6 +1,6 @@
--- `prints::part` meets its contract. Assumes nothing.
+-- `prints::part` is safe and ends. Assumes nothing.
 use borrow.Author.Needs.{needs}
-use Prim.Native.Nat.{_-_, _≤_}
+use Prim.Native.Nat.{_-_}
 use lib.ListN.{length}
 use Rattle.prints.proofs.part.Statement.{statement}
 use Rattle.prints.proofs.part.Tie as tie

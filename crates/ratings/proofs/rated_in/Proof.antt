@@ -5,8 +5,6 @@ use native.Mathlib.Omega.{arith}
 use Rattle.ratings.specs.Rating.{small}
 use Rattle.ratings.proofs.rated_in.Statement.{statement}
 use Rattle.ratings.proofs.rated_in.Tie as tie
-use Rattle.ratings.proofs.rated_in.Reads as reads
-use Rattle.ratings.proofs.rated_in.Lts as lts
 
 enum-told : tie.Need-enum-told
 enum-told c = search needs

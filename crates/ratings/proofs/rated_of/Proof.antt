@@ -3,10 +3,6 @@ use borrow.Author.Needs.{needs}
 use Rattle.ratings.specs.Rating.{policy-small}
 use Rattle.ratings.proofs.rated_of.Statement.{statement}
 use Rattle.ratings.proofs.rated_of.Tie as tie
-use Rattle.ratings.proofs.rated_of.Reads as reads
-use Rattle.ratings.proofs.rated_of.Lts as lts
-use Rattle.ratings.proofs.rated_in.Reads as rated-in-reads
-use Rattle.words.proofs.policy_of.Reads as policy-of-reads
 
 policy-of-requires : tie.Need-policy-of-requires
 policy-of-requires c κs = search needs

@@ -1,6 +1,5 @@
--- `refusals::refuse` meets its contract. Assumes nothing.
+-- `refusals::refuse` is safe and ends. Assumes nothing.
 use borrow.Author.Needs.{needs}
-use native.Mathlib.Omega.{arith}
 use Prim.Native.Nat.{_-_}
 use mathlib.Core.Path.{_≡_, refl, _∙_}
 use lib.ListN.{length}

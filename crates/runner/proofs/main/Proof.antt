@@ -1,4 +1,4 @@
--- `runner::main` meets its contract. The measure is the count of turns. Assumes nothing.
+-- `runner::main` is safe and ends. The measure is the count of turns. Assumes nothing.
 use borrow.Author.Needs.{needs}
 use native.Mathlib.Omega.{arith}
 use Rattle.runner.proofs.main.Statement.{statement}

@@ -1,4 +1,4 @@
--- `shows::give` meets its contract. Assumes nothing.
+-- `shows::give` is safe and ends. Assumes nothing.
 use borrow.Author.Needs.{needs}
 use Prim.Native.Nat.{_≤_}
 use mathlib.Core.Path.{_≡_, _∙_}

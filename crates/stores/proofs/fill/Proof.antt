@@ -1,4 +1,4 @@
--- `stores::fill` meets its contract. Assumes nothing.
+-- `stores::fill` is safe and ends. Assumes nothing.
 use borrow.Author.Needs.{needs}
 use Prim.Native.Nat.{_-_}
 use mathlib.Core.Path.{_≡_}

@@ -1,4 +1,4 @@
--- `pictures::look::class_lines` meets its contract. Assumes nothing.
+-- `pictures::look::class_lines` is safe and ends. Assumes nothing.
 use borrow.Author.Needs.{needs}
 use Prim.Native.Nat.{_-_}
 use Rattle.pictures.proofs.look.class_lines.Statement.{statement}

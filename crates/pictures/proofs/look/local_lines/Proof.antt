@@ -1,4 +1,4 @@
--- `pictures::look::local_lines` meets its contract. Assumes nothing.
+-- `pictures::look::local_lines` is safe and ends. Assumes nothing.
 use borrow.Author.Needs.{needs}
 use Prim.Native.Nat.{_-_}
 use lib.ListN.{length}

@@ -1,4 +1,4 @@
--- `pictures::look::map` meets its contract. Assumes nothing.
+-- `pictures::look::map` is safe and ends. Assumes nothing.
 use borrow.Author.Needs.{needs}
 use Prim.Native.Nat.{_-_}
 use lib.ListN.{length}
