@@ -1,6 +1,8 @@
 // The boot loader: the firmware's first caller, and the example of how the library is called. It starts the store, takes the frames of the
 // boot patterns (crate `shows`), gives them back, drains, and reports each answer. No refusal is passed over: the crate `says` has what the
-// loader does on each, the crate `refusals` a call for each but Stuck.
+// loader does on each, the module `refusals` a call for each but Stuck.
+mod refusals;
+
 use patterns::Pattern;
 use rules::Header;
 use shows::Held;

@@ -1,10 +1,10 @@
--- `refusals::refuse` is safe and ends. Assumes nothing.
+-- `boot::refusals::refuse` is safe and ends. Assumes nothing.
 use borrow.Author.Needs.{needs}
 use Prim.Native.Nat.{_-_}
 use mathlib.Core.Path.{_≡_, refl, _∙_}
 use lib.ListN.{length}
-use Rattle.refusals.proofs.refuse.Statement.{statement}
-use Rattle.refusals.proofs.refuse.Tie as tie
+use Rattle.boot.proofs.refusals.refuse.Statement.{statement}
+use Rattle.boot.proofs.refusals.refuse.Tie as tie
 
 abbrev Inv-loop : tie.InvT-loop
 Inv-loop h table trees₀ locals₀ bits₀ i₀ trees locals bits i = (length trees ≡ length trees₀) × ((length locals ≡ length locals₀) × (length bits ≡ length bits₀))

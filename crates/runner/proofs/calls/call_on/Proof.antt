@@ -1,8 +1,8 @@
--- `calls::call_on` is safe and ends. Assumes nothing.
+-- `runner::calls::call_on` is safe and ends. Assumes nothing.
 use borrow.Author.Needs.{needs}
 use mathlib.Core.Path.{refl}
-use Rattle.calls.proofs.call_on.Statement.{statement}
-use Rattle.calls.proofs.call_on.Tie as tie
+use Rattle.runner.proofs.calls.call_on.Statement.{statement}
+use Rattle.runner.proofs.calls.call_on.Tie as tie
 
 enum-known-c : tie.Need-enum-known-c
 enum-known-c c = search needs
