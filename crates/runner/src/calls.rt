@@ -2,24 +2,21 @@
 use commands::Call;
 use rules::Header;
 use stores::Setup;
+use tells::Stats;
+use ways::Outcome;
+use ways::Reply;
 
-// Statistics with so many rows lent, and their answer.
-fn stats<'a>(
-    h: Header,
-    table: &'a [u32; 64],
-    trees: &'a [u32],
-    locals: &'a [u64],
-    bits: &'a [u64],
-    rows: usize,
-    out: &mut [u8],
-    at: usize,
-) -> usize {
-    let told = tells::tell(h, table, trees, locals, bits, rows);
-    answers::stats(out, at, told)
+// What a call answered.
+enum Answered {
+    Start(Outcome),
+    Get(Reply),
+    Put(Outcome),
+    Drain(Outcome),
+    Stats(Stats),
 }
 
-// A call on the words lent to it, and its answer.
-fn call_on(
+// A call on the words lent to it.
+fn made(
     h: Header,
     rows: usize,
     table: &[u32; 64],
@@ -27,27 +24,26 @@ fn call_on(
     locals: &mut [u64],
     bits: &mut [u64],
     c: Call,
-    out: &mut [u8],
-    at: usize,
-) -> usize {
+) -> Answered {
     match c {
         Call::Start(all_free) => {
-            let o = start::start(h, table, trees, locals, bits, all_free);
-            answers::outcome(out, at, b"start ", o)
+            Answered::Start(start::start(h, table, trees, locals, bits, all_free))
         }
-        Call::Get { name, q } => {
-            let r = get::get(h, table, trees, locals, bits, name, q);
-            replies::reply(out, at, r)
-        }
-        Call::Put { frame, q } => {
-            let o = put::put(h, table, trees, locals, bits, frame, q);
-            answers::outcome(out, at, b"put ", o)
-        }
-        Call::Drain => {
-            let o = drain::drain(h, table, trees, locals, bits);
-            answers::outcome(out, at, b"drain ", o)
-        }
-        Call::Stats => stats(h, table, trees, locals, bits, rows, out, at),
+        Call::Get { name, q } => Answered::Get(get::get(h, table, trees, locals, bits, name, q)),
+        Call::Put { frame, q } => Answered::Put(put::put(h, table, trees, locals, bits, frame, q)),
+        Call::Drain => Answered::Drain(drain::drain(h, table, trees, locals, bits)),
+        Call::Stats => Answered::Stats(tells::tell(h, table, trees, locals, bits, rows)),
+    }
+}
+
+// Its answer, written.
+fn written(out: &mut [u8], at: usize, a: Answered) -> usize {
+    match a {
+        Answered::Start(o) => answers::outcome(out, at, b"start ", o),
+        Answered::Get(r) => replies::reply(out, at, r),
+        Answered::Put(o) => answers::outcome(out, at, b"put ", o),
+        Answered::Drain(o) => answers::outcome(out, at, b"drain ", o),
+        Answered::Stats(s) => answers::stats(out, at, s),
     }
 }
 
@@ -65,7 +61,7 @@ pub fn call(
     let t = stores::lent_trees(setup, trees.len());
     let l = stores::lent_locals(setup, locals.len());
     let b = stores::lent_bits(setup, bits.len());
-    call_on(
+    let answered = made(
         setup.h,
         setup.rows,
         table,
@@ -73,7 +69,6 @@ pub fn call(
         &mut locals[0..l],
         &mut bits[0..b],
         c,
-        out,
-        at,
-    )
+    );
+    written(out, at, answered)
 }
