@@ -71,7 +71,7 @@ fn move_from(
     let Payer::Local { class: _, slot } = payer else {
         return ends::missed(looks, tries);
     };
-    match local_frames::take(locals, slot, name, sizes::frames(q.order) as usize) {
+    match local_frames::take(locals, slot, name, sizes::size(q.order)) {
         Held::Row(_) => {
             let l = local_swaps::clear(locals, slot);
             demote_to(h, table, trees, locals, bits, q, name, l, looks, tries)
@@ -106,7 +106,7 @@ pub fn demote_local(
         q.class,
         steps::index_of(local),
         name,
-        sizes::frames(q.order) as usize,
+        sizes::size(q.order),
     );
     move_from(h, table, trees, locals, bits, q, name, payer, looks, tries)
 }

@@ -34,7 +34,7 @@ fn pay_from(
     let Payer::Local { class, slot } = payer else {
         return ends::missed(looks, tries);
     };
-    match local_frames::take(locals, slot, name, sizes::frames(q.order) as usize) {
+    match local_frames::take(locals, slot, name, sizes::size(q.order)) {
         Held::Row(row) => {
             steps::ask_lower(h, table, trees, bits, q, name, row, class, looks, tries)
         }
@@ -68,7 +68,7 @@ fn steal_local(
         q.class,
         steps::index_of(local),
         name,
-        sizes::frames(q.order) as usize,
+        sizes::size(q.order),
     );
     pay_from(h, table, trees, locals, bits, q, name, payer, looks, tries)
 }

@@ -46,7 +46,7 @@ pub fn reserved(
 {
     match lower::lower_get(bits, t * 32, q.order, Name::Any) {
         Found::At(f) => {
-            let free = words::less(old as usize, sizes::frames(q.order) as usize);
+            let free = words::less(old as usize, sizes::size(q.order));
             let l = local_swaps::swap(locals, j, reservation(t, free));
             if steps::unreserve_local(h, table, trees, q.class, l) {
                 return ends::done(f, q.class, looks, tries + 1);

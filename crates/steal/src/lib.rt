@@ -31,7 +31,7 @@ pub fn steal_global(
         ≡ stealGlobal (config h (now (table .entry))) q name t (st (now (trees .entry)) (now (locals .entry)) (now (bits .entry)) looks tries))
         × ((r .looks ≤ looks) × (r .tries ≤ tries + 1)) ⌝ }
 {
-    match tree_takes::steal(h, table, trees, t, q.class, sizes::frames(q.order) as usize) {
+    match tree_takes::steal(h, table, trees, t, q.class, sizes::size(q.order)) {
         Took::No => ends::missed(looks, tries),
         Took::Yes(e) => {
             let row = t * 32;
@@ -64,7 +64,7 @@ fn reserve_or_steal(
         trees,
         t,
         q.class,
-        sizes::frames(q.order) as usize,
+        sizes::size(q.order),
     ) {
         Taken::No => ends::missed(looks, tries),
         Taken::Part(e) => {

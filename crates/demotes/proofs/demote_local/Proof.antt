@@ -8,11 +8,8 @@ use Rattle.demotes.proofs.demote_local.Tie as tie
 index-of-requires : tie.Need-index-of-requires
 index-of-requires c κs = search needs
 
-frames-requires : tie.Need-frames-requires
-frames-requires c κs = search needs
-
-cast-demote-any : tie.Need-cast-demote-any
-cast-demote-any c = search needs
+size-requires : tie.Need-size-requires
+size-requires c κs = search needs
 
 demote-any-requires : tie.Need-demote-any-requires
 demote-any-requires c κs = search needs
@@ -34,7 +31,7 @@ unfolding demoteLocal
 returns c = (
   rw (
     ← c .before .before .before .before .before .before .before .before .before .before .before .before .index-of .ensures,
-    ← c .before .before .before .before .before .before .before .before .before .before .before .frames .ensures,
+    ← c .before .before .before .before .before .before .before .before .before .before .before .size .ensures .0,
     ← c .before .before .before .before .before .before .before .before .before .before .demote-any .ensures,
     ← c .before .before .before .before .before .before .move-from .ensures .0,
   ),
@@ -46,8 +43,7 @@ demote-local-spec =
     tie.close
     (tie.spec
     index-of-requires
-    frames-requires
-    cast-demote-any
+    size-requires
     demote-any-requires
     move-from-requires
     same-length

@@ -22,11 +22,8 @@ returns c = (
   omega (arith, c .missed .ensures .1),
 )
 
-frames-requires : tie.Need-frames-requires
-frames-requires c κs = search needs
-
-cast-take : tie.Need-cast-take
-cast-take c = search needs
+size-requires : tie.Need-size-requires
+size-requires c κs = search needs
 
 take-requires : tie.Need-take-requires
 take-requires c κs = search needs
@@ -66,7 +63,7 @@ unfolding moveFrom onHeld onSwap withLocals
 returns-2 c = (
   rw (
     c .before .before .before .before .before .before .before .before .before .before .before .before .before .before .before .before .before .before .before .before .before .before .payer .given .1,
-    ← c .before .before .before .before .before .before .before .before .before .before .before .before .before .before .before .before .before .before .before .frames .ensures,
+    ← c .before .before .before .before .before .before .before .before .before .before .before .before .before .before .before .before .before .before .before .size .ensures .0,
     ← c .before .before .before .before .before .before .before .before .before .before .before .before .before .before .before .before .before .before .take .ensures,
     c .before .before .before .before .before .before .before .before .before .before .before .before .before .before .enum-told2 .given .1,
     ← c .before .before .before .before .before .before .before .before .before .before .before .before .clear .ensures .0,
@@ -83,7 +80,7 @@ unfolding moveFrom onHeld onSwap withLocals
 returns-3 c = (
   rw (
     c .before .before .before .before .before .before .before .before .before .payer .given .1,
-    ← c .before .before .before .before .before .before .frames .ensures,
+    ← c .before .before .before .before .before .before .size .ensures .0,
     ← c .before .before .before .before .before .take .ensures,
     c .before .enum-told3 .given .1,
   ) (c .missed2 .ensures .0 _ _ _),
@@ -98,7 +95,7 @@ unfolding moveFrom onHeld onSwap withLocals
 returns-4 c = (
   rw (
     c .before .before .before .before .before .before .before .before .before .payer .given .1,
-    ← c .before .before .before .before .before .before .frames .ensures,
+    ← c .before .before .before .before .before .before .size .ensures .0,
     ← c .before .before .before .before .before .take .ensures,
     c .before .enum-told4 .given .1,
   ) (c .missed3 .ensures .0 _ _ _),
@@ -113,8 +110,7 @@ move-from-spec =
     enum-told
     missed-requires
     returns
-    frames-requires
-    cast-take
+    size-requires
     take-requires
     enum-told-2
     clear-requires

@@ -8,11 +8,8 @@ use Rattle.others.proofs.steal_local.Tie as tie
 index-of-requires : tie.Need-index-of-requires
 index-of-requires c κs = search needs
 
-frames-requires : tie.Need-frames-requires
-frames-requires c κs = search needs
-
-cast-steal-any : tie.Need-cast-steal-any
-cast-steal-any c = search needs
+size-requires : tie.Need-size-requires
+size-requires c κs = search needs
 
 steal-any-requires : tie.Need-steal-any-requires
 steal-any-requires c κs = search needs
@@ -34,7 +31,7 @@ unfolding stealLocal
 returns c = (
   rw (
     ← c .before .before .before .before .before .before .before .before .before .before .before .before .index-of .ensures,
-    ← c .before .before .before .before .before .before .before .before .before .before .before .frames .ensures,
+    ← c .before .before .before .before .before .before .before .before .before .before .before .size .ensures .0,
     ← c .before .before .before .before .before .before .before .before .before .before .steal-any .ensures,
     ← c .before .before .before .before .before .before .pay-from .ensures .0,
   ),
@@ -46,8 +43,7 @@ steal-local-spec =
     tie.close
     (tie.spec
     index-of-requires
-    frames-requires
-    cast-steal-any
+    size-requires
     steal-any-requires
     pay-from-requires
     same-length

@@ -16,11 +16,8 @@ lower-get-requires c κs = search needs
 enum-known-f : tie.Need-enum-known-f
 enum-known-f c = search needs
 
-frames-requires : tie.Need-frames-requires
-frames-requires c κs = search needs
-
-cast-less : tie.Need-cast-less
-cast-less c = search needs
+size-requires : tie.Need-size-requires
+size-requires c κs = search needs
 
 less-requires : tie.Need-less-requires
 less-requires c κs = search needs
@@ -55,7 +52,7 @@ returns c = (
   rw (
     ← c .before .before .before .before .before .before .before .before .before .before .before .before .before .before .before .before .before .before .lower-get .ensures,
     c .before .before .before .before .before .before .before .before .before .before .before .before .before .before .f .given .1,
-    ← c .before .before .before .before .before .before .before .before .before .before .before .before .frames .ensures,
+    ← c .before .before .before .before .before .before .before .before .before .before .before .before .size .ensures .0,
     ← c .before .before .before .before .before .before .before .before .before .before .before .less .ensures .0,
     ← c .before .before .before .before .before .before .before .before .before .reservation .ensures,
     ← c .before .before .before .before .before .before .before .before .swap .ensures .0,
@@ -124,7 +121,7 @@ returns-3 c = (
   rw (
     ← c .before .before .before .before .before .before .before .before .before .before .before .before .before .before .before .before .before .before .lower-get .ensures,
     c .before .before .before .before .before .before .before .before .before .before .before .before .before .before .f .given .1,
-    ← c .before .before .before .before .before .before .before .before .before .before .before .before .frames .ensures,
+    ← c .before .before .before .before .before .before .before .before .before .before .before .before .size .ensures .0,
     ← c .before .before .before .before .before .before .before .before .before .before .before .less .ensures .0,
     ← c .before .before .before .before .before .before .before .before .before .reservation .ensures,
     ← c .before .before .before .before .before .before .before .before .swap .ensures .0,
@@ -161,8 +158,7 @@ reserved-spec =
     mul-lower-get
     lower-get-requires
     enum-known-f
-    frames-requires
-    cast-less
+    size-requires
     less-requires
     reservation-requires
     swap-requires

@@ -7,11 +7,8 @@ use borrow.Author.Needs.{needs}
 use Rattle.steal.proofs.reserve_or_steal.Statement.{statement}
 use Rattle.steal.proofs.reserve_or_steal.Tie as tie
 
-frames-requires : tie.Need-frames-requires
-frames-requires c κs = search needs
-
-cast-reserve-or-steal : tie.Need-cast-reserve-or-steal
-cast-reserve-or-steal c = search needs
+size-requires : tie.Need-size-requires
+size-requires c κs = search needs
 
 reserve-or-steal-requires : tie.Need-reserve-or-steal-requires
 reserve-or-steal-requires c κs = search needs
@@ -44,7 +41,7 @@ returns : tie.Need-returns
 unfolding reserveOrSteal onTaken withTrees
 returns c = (
   rw (
-    ← c .before .before .before .before .before .before .frames .ensures,
+    ← c .before .before .before .before .before .before .size .ensures .0,
     ← c .before .before .before .before .before .reserve-or-steal .ensures,
     c .before .enum-told .given .1,
   ) (c .missed .ensures .0 _ _ _),
@@ -61,7 +58,7 @@ returns-2 : tie.Need-returns-2
 unfolding reserveOrSteal onTaken withTrees
 returns-2 c = (
   rw (
-    ← c .before .before .before .before .before .before .before .before .before .before .before .before .before .frames .ensures,
+    ← c .before .before .before .before .before .before .before .before .before .before .before .before .before .size .ensures .0,
     ← c .before .before .before .before .before .before .before .before .before .before .before .before .reserve-or-steal .ensures,
     c .before .before .before .before .before .before .before .before .e .given .1,
   ) (rw (row-tree (c .before .before .before .before .before .before .before .before .before .before .before .before .before .before .before .before .before .before .args .t)) at (c .before .before .before .before .ask-lower .ensures .0 (c .before .before .before .before .before .before .before .before .before .before .before .before .before .before .before .before .before .before .args .locals .now))),
@@ -81,7 +78,7 @@ returns-3 : tie.Need-returns-3
 unfolding reserveOrSteal onTaken withTrees
 returns-3 c = (
   rw (
-    ← c .before .before .before .before .before .before .before .before .before .before .before .before .before .before .before .before .frames .ensures,
+    ← c .before .before .before .before .before .before .before .before .before .before .before .before .before .before .before .before .size .ensures .0,
     ← c .before .before .before .before .before .before .before .before .before .before .before .before .before .before .before .reserve-or-steal .ensures,
     c .before .before .before .before .before .before .before .before .before .before .before .e2 .given .1,
     ← c .before .before .before .before .before .before .reserved .ensures .0,
@@ -93,8 +90,7 @@ pub reserve-or-steal-spec : {M : Type 1} → statement M
 reserve-or-steal-spec =
     tie.close
     (tie.spec
-    frames-requires
-    cast-reserve-or-steal
+    size-requires
     reserve-or-steal-requires
     enum-told
     missed-requires

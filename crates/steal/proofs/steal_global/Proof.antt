@@ -7,11 +7,8 @@ use borrow.Author.Needs.{needs}
 use Rattle.steal.proofs.steal_global.Statement.{statement}
 use Rattle.steal.proofs.steal_global.Tie as tie
 
-frames-requires : tie.Need-frames-requires
-frames-requires c κs = search needs
-
-cast-steal : tie.Need-cast-steal
-cast-steal c = search needs
+size-requires : tie.Need-size-requires
+size-requires c κs = search needs
 
 steal-requires : tie.Need-steal-requires
 steal-requires c κs = search needs
@@ -38,7 +35,7 @@ returns : tie.Need-returns
 unfolding stealGlobal onTook withTrees
 returns c = (
   rw (
-    ← c .before .before .before .before .before .before .frames .ensures,
+    ← c .before .before .before .before .before .before .size .ensures .0,
     ← c .before .before .before .before .before .steal .ensures,
     c .before .enum-told .given .1,
   ) (c .missed .ensures .0 _ _ _),
@@ -55,7 +52,7 @@ returns-2 : tie.Need-returns-2
 unfolding stealGlobal onTook withTrees
 returns-2 c = (
   rw (
-    ← c .before .before .before .before .before .before .before .before .before .before .before .before .before .frames .ensures,
+    ← c .before .before .before .before .before .before .before .before .before .before .before .before .before .size .ensures .0,
     ← c .before .before .before .before .before .before .before .before .before .before .before .before .steal .ensures,
     c .before .before .before .before .before .before .before .before .e .given .1,
   ) (rw (row-tree (c .before .before .before .before .before .before .before .before .before .before .before .before .before .before .before .before .before .before .args .t)) at (c .before .before .before .before .ask-lower .ensures .0 (c .before .before .before .before .before .before .before .before .before .before .before .before .before .before .before .before .before .before .args .locals .now))),
@@ -66,8 +63,7 @@ pub steal-global-spec : {M : Type 1} → statement M
 steal-global-spec =
     tie.close
     (tie.spec
-    frames-requires
-    cast-steal
+    size-requires
     steal-requires
     enum-told
     missed-requires
