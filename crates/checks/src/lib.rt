@@ -1,13 +1,14 @@
-// The argument tests of a get and a put: the refusals 2 to 6.
+// The argument tests of a get and a put: the refusals 2 to 6, and the frame that a get is tested with.
 use rules::Given;
 use rules::Header;
+use rules::Name;
 use rules::Request;
 use ways::Outcome;
 use ways::Refusal;
 ghost use mathlib.Core.Path.{_≡_};
 ghost use Prim.Native.Nat.{_<_};
 ghost use Rattle.rules.specs.Words.{config};
-ghost use Rattle.ways.specs.Calls.{outcomeOf, refuseLocal, refuseClass, refusal};
+ghost use Rattle.ways.specs.Calls.{outcomeOf, refuseLocal, refuseClass, refusal, frameOf};
 
 // A local given has to be below its class's number.
 fn check_local(h: Header, table: &[u32; 64], class: usize, local: Given) -> Outcome
@@ -57,4 +58,14 @@ pub fn check(h: Header, table: &[u32; 64], q: Request, frame: usize) -> Outcome
         return check_class(h, table, q);
     }
     Outcome::Refused(Refusal::Misaligned)
+}
+
+// The frame that a get names, 0 if none.
+pub fn frame_of(name: Name) -> usize
+    ensures { λ r. ⌜ r ≡ frameOf name ⌝ }
+{
+    match name {
+        Name::Any => 0,
+        Name::Frame(f) => f,
+    }
 }

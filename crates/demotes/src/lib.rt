@@ -11,7 +11,7 @@ ghost use mathlib.Core.Path.{_≡_};
 ghost use Prim.Native.Nat.{_+_, _^_, _<_, _≤_};
 ghost use Rattle.rules.specs.Words.{config};
 ghost use Rattle.ways.specs.State.{st, ended};
-ghost use Rattle.ways.specs.Locals.{demoteTo, moveFrom, demoteLocal};
+ghost use Rattle.ways.specs.Locals.{demoteTo, demoteLocal};
 ghost use Rattle.ways.specs.Fits.{Fits};
 
 // The reservation l moves to the given local and the displaced one is unreserved, or with no local it is unreserved itself; then the lower is asked.
@@ -50,38 +50,7 @@ fn demote_to(
     }
 }
 
-// The reservation is reduced, and leaves its local.
-fn move_from(
-    h: Header,
-    table: &[u32; 64],
-    trees: &mut [u32],
-    locals: &mut [u64],
-    bits: &mut [u64],
-    q: Request,
-    name: Name,
-    payer: Payer,
-    looks: usize,
-    tries: usize,
-) -> Routed
-    requires { ⌜ Fits h q × ((looks < 2 ^ 32) × (tries < 2 ^ 32)) ⌝ }
-    ensures { λ r. ⌜ (ended r (now (trees .exit)) (now (locals .exit)) (now (bits .exit))
-        ≡ moveFrom (config h (now (table .entry))) q name payer (st (now (trees .entry)) (now (locals .entry)) (now (bits .entry)) looks tries))
-        × ((r .looks ≤ looks) × (r .tries ≤ tries + 1)) ⌝ }
-{
-    let Payer::Local { class: _, slot } = payer else {
-        return ends::missed(looks, tries);
-    };
-    match local_frames::take(locals, slot, name, sizes::frames(q.order) as usize) {
-        Held::Row(_) => {
-            let l = local_swaps::clear(locals, slot);
-            demote_to(h, table, trees, locals, bits, q, name, l, looks, tries)
-        }
-        Held::Few { row: _, free: _ } => ends::missed(looks, tries),
-        Held::Absent => ends::missed(looks, tries),
-    }
-}
-
-// Demote: over the other classes of kind Demote.
+// Demote: over the other classes of kind Demote. The first reservation with enough is reduced, and leaves its local.
 pub fn demote_local(
     h: Header,
     table: &[u32; 64],
@@ -99,14 +68,18 @@ pub fn demote_local(
         × ((r .looks ≤ looks) × (r .tries ≤ tries + 1)) ⌝ }
 {
     let local = q.local;
-    let payer = payers::demote_any(
-        h,
-        table,
-        locals,
-        q.class,
-        steps::index_of(local),
-        name,
-        sizes::frames(q.order) as usize,
-    );
-    move_from(h, table, trees, locals, bits, q, name, payer, looks, tries)
+    let i = steps::index_of(local);
+    let n = sizes::size(q.order);
+    let payer = payers::demote_any(h, table, locals, q.class, i, name, n);
+    let Payer::Local { class: _, slot } = payer else {
+        return ends::missed(looks, tries);
+    };
+    match local_frames::take(locals, slot, name, n) {
+        Held::Row(_) => {
+            let l = local_swaps::clear(locals, slot);
+            demote_to(h, table, trees, locals, bits, q, name, l, looks, tries)
+        }
+        Held::Few { row: _, free: _ } => ends::missed(looks, tries),
+        Held::Absent => ends::missed(looks, tries),
+    }
 }

@@ -1,5 +1,4 @@
-// How a get is answered, and the frame that it is tested with.
-use rules::Name;
+// How a get is answered.
 use ways::Got;
 use ways::Granted;
 use ways::Refusal;
@@ -10,9 +9,9 @@ ghost use mathlib.Core.List.{List};
 ghost use Prim.Native.Nat.{ℕ};
 ghost use Rattle.ways.specs.declared.Granted.the-variants as Granted;
 ghost use Rattle.ways.specs.State.{ended};
-ghost use Rattle.ways.specs.Calls.{toldGet, close, frameOf};
+ghost use Rattle.ways.specs.Calls.{toldGet, close};
 
-// A refused get names no frame and no class.
+// A get refused before its routes: no frame, no class, no counts.
 pub fn refused(x: Refusal) -> Reply
     ensures { λ r. ⌜ r ≡ record { granted = Granted.Refused x; looks = 0; tries = 0 } ⌝ }
 {
@@ -52,15 +51,5 @@ pub fn reply(r: Routed) -> Reply
             looks: r.looks,
             tries: r.tries,
         },
-    }
-}
-
-// The frame that a get names, 0 if none.
-pub fn frame_of(name: Name) -> usize
-    ensures { λ r. ⌜ r ≡ frameOf name ⌝ }
-{
-    match name {
-        Name::Any => 0,
-        Name::Frame(f) => f,
     }
 }

@@ -9,41 +9,11 @@ ghost use mathlib.Core.Path.{_≡_};
 ghost use Prim.Native.Nat.{_+_, _^_, _<_, _≤_};
 ghost use Rattle.rules.specs.Words.{config};
 ghost use Rattle.ways.specs.State.{st, ended};
-ghost use Rattle.ways.specs.Locals.{payFrom, stealLocal};
+ghost use Rattle.ways.specs.Locals.{stealLocal};
 ghost use Rattle.ways.specs.Get.{lastRoutes};
 ghost use Rattle.ways.specs.Fits.{Fits};
 
-// The payer pays; its class is answered.
-fn pay_from(
-    h: Header,
-    table: &[u32; 64],
-    trees: &mut [u32],
-    locals: &mut [u64],
-    bits: &mut [u64],
-    q: Request,
-    name: Name,
-    payer: Payer,
-    looks: usize,
-    tries: usize,
-) -> Routed
-    requires { ⌜ Fits h q × ((looks < 2 ^ 32) × (tries < 2 ^ 32)) ⌝ }
-    ensures { λ r. ⌜ (ended r (now (trees .exit)) (now (locals .exit)) (now (bits .exit))
-        ≡ payFrom (config h (now (table .entry))) q name payer (st (now (trees .entry)) (now (locals .entry)) (now (bits .entry)) looks tries))
-        × ((r .looks ≤ looks) × (r .tries ≤ tries + 1)) ⌝ }
-{
-    let Payer::Local { class, slot } = payer else {
-        return ends::missed(looks, tries);
-    };
-    match local_frames::take(locals, slot, name, sizes::frames(q.order) as usize) {
-        Held::Row(row) => {
-            steps::ask_lower(h, table, trees, bits, q, name, row, class, looks, tries)
-        }
-        Held::Few { row: _, free: _ } => ends::missed(looks, tries),
-        Held::Absent => ends::missed(looks, tries),
-    }
-}
-
-// Steal from locals: over classes c, c+1, .. modulo 8 whose kind is Steal or Match.
+// Steal from locals: over classes c, c+1, .. modulo 8 whose kind is Steal or Match. The first with enough pays, and its class is answered.
 fn steal_local(
     h: Header,
     table: &[u32; 64],
@@ -61,16 +31,19 @@ fn steal_local(
         × ((r .looks ≤ looks) × (r .tries ≤ tries + 1)) ⌝ }
 {
     let local = q.local;
-    let payer = payers::steal_any(
-        h,
-        table,
-        locals,
-        q.class,
-        steps::index_of(local),
-        name,
-        sizes::frames(q.order) as usize,
-    );
-    pay_from(h, table, trees, locals, bits, q, name, payer, looks, tries)
+    let i = steps::index_of(local);
+    let n = sizes::size(q.order);
+    let payer = payers::steal_any(h, table, locals, q.class, i, name, n);
+    let Payer::Local { class, slot } = payer else {
+        return ends::missed(looks, tries);
+    };
+    match local_frames::take(locals, slot, name, n) {
+        Held::Row(row) => {
+            steps::ask_lower(h, table, trees, bits, q, name, row, class, looks, tries)
+        }
+        Held::Few { row: _, free: _ } => ends::missed(looks, tries),
+        Held::Absent => ends::missed(looks, tries),
+    }
 }
 
 // Steal from locals, then demote.

@@ -39,7 +39,7 @@ pub fn at_row(
             ends::done(f, q.class, looks, tries + 1)
         }
         Found::Nothing => {
-            trees::put(h, table, trees, row / 32, sizes::frames(q.order) as usize);
+            trees::put(h, table, trees, row / 32, sizes::size(q.order));
             ends::missed_at(row / 32, looks, tries + 1)
         }
     }

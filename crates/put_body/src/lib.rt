@@ -28,7 +28,7 @@ fn put_to(
         ≡ putTo (config h (now (table .entry))) q frame local (fresh (now (trees .entry)) (now (locals .entry)) b)) ⌝ }
 {
     let t = frame / 2048;
-    let n = sizes::frames(q.order) as usize;
+    let n = sizes::size(q.order);
     match local {
         Given::Nothing => {
             trees::put(h, table, trees, t, n);

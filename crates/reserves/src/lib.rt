@@ -6,10 +6,12 @@ use rules::Name;
 use rules::Request;
 use ways::Routed;
 ghost use mathlib.Core.Path.{_≡_};
-ghost use Prim.Native.Nat.{_+_, _-_, _*_, _^_, _<_, _≤_};
+ghost use mathlib.Core.List.{List};
+ghost use Prim.Native.Nat.{ℕ, _+_, _-_, _*_, _^_, _<_, _≤_};
+ghost use Rattle.rules.specs.Base.{ifte};
 ghost use Rattle.rules.specs.Words.{config};
 ghost use Rattle.rules.specs.Locals.{reservation};
-ghost use Rattle.ways.specs.State.{st, ended};
+ghost use Rattle.ways.specs.State.{st, ended, stuck};
 ghost use Rattle.ways.specs.Walk.{reserved};
 ghost use Rattle.ways.specs.Fits.{Fits};
 
@@ -23,6 +25,17 @@ fn reservation(t: usize, free: usize) -> Local
         free: free,
         present: true,
     }
+}
+
+// A route that ends so if a reservation was returned, and else is stuck.
+fn or_stuck(returned: bool, r: Routed) -> Routed
+    ensures { λ x. ⌜ ((t l b : List ℕ) → ended x t l b ≡ ifte returned (λ _. ended r t l b) (λ _. stuck (st t l b (r .looks) (r .tries))))
+        × ((x .looks ≡ r .looks) × (x .tries ≡ r .tries)) ⌝ }
+{
+    if returned {
+        return r;
+    }
+    ends::stuck(r.looks, r.tries)
 }
 
 // Tree t was reserved with so many free: the lower is asked, the reservation stored in the local j, the one it replaces returned; refused, it is undone.
@@ -46,18 +59,14 @@ pub fn reserved(
 {
     match lower::lower_get(bits, t * 32, q.order, Name::Any) {
         Found::At(f) => {
-            let free = words::less(old as usize, sizes::frames(q.order) as usize);
+            let free = words::less(old as usize, sizes::size(q.order));
             let l = local_swaps::swap(locals, j, reservation(t, free));
-            if steps::unreserve_local(h, table, trees, q.class, l) {
-                return ends::done(f, q.class, looks, tries + 1);
-            }
-            ends::stuck(looks, tries + 1)
+            let back = steps::unreserve_local(h, table, trees, q.class, l);
+            or_stuck(back, ends::done(f, q.class, looks, tries + 1))
         }
         Found::Nothing => {
-            if steps::unreserve(h, table, trees, t, q.class, old as usize) {
-                return ends::missed(looks, tries + 1);
-            }
-            ends::stuck(looks, tries + 1)
+            let back = steps::unreserve(h, table, trees, t, q.class, old as usize);
+            or_stuck(back, ends::missed(looks, tries + 1))
         }
     }
 }

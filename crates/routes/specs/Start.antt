@@ -1,5 +1,6 @@
--- A tree that a failed own reservation gives as the start of a search comes out of a local's word, and is small. Assumes nothing.
-use mathlib.Core.Path.{_≡_, sym, ap, _∙_, subst}
+-- The start of a search after the own local. A tree that a failed own reservation gives comes out of a local's word, and is small. Assumes nothing.
+use mathlib.Core.Path.{_≡_, refl, sym, subst}
+use mathlib.Core.Bool.{true, false}
 use native.Mathlib.Nat.{div-le-self, mul-le-mul-right, le-trans}
 use Prim.Native.Nat.{ℕ, zero, suc, _-_, _*_, _/_, _^_, _<_, _≤_}
 use native.Mathlib.Omega.{arith}
@@ -14,6 +15,8 @@ use Rattle.rules.specs.declared.Request.{Request}
 use Rattle.ways.specs.declared.Got.{Got}
 use Rattle.ways.specs.declared.Got.the-variants as Got
 use Rattle.ways.specs.State.{State, Way, size, done, missed, missedAt}
+use Rattle.ways.specs.Get.{orFrom}
+use Rattle.ends.specs.Ends.{ends}
 use Rattle.ways.specs.Locals.{takeBy, topBy, topUp, getLocal}
 use Rattle.step_laws.specs.Steps.{ifte-ind, held-ind, sync-ind, put-ind, found-ind}
 
@@ -23,6 +26,39 @@ Small (out (Got.Done f k) s) = Unit {0}
 Small (out Got.Missed s) = Unit {0}
 Small (out (Got.MissedAt t) s) = t < 2 ^ 44
 Small (out Got.Stuck s) = Unit {0}
+
+-- the tree of a present reservation that failed, or else the start as given
+unfoldable pub startAfter : ℕ → Got → ℕ
+startAfter start (Got.Done f k) = start
+startAfter start Got.Missed = start
+startAfter start (Got.MissedAt t) = t
+startAfter start Got.Stuck = start
+
+after-small : (start : ℕ) (g : Got) (s : State) → start < 2 ^ 44 → Small (out g s) → startAfter start g < 2 ^ 44
+unfolding startAfter
+after-small start (Got.Done f k) s r x = r
+after-small start Got.Missed s r x = r
+after-small start (Got.MissedAt t) s r x = x
+after-small start Got.Stuck s r x = r
+
+-- true is not false
+apart : {X : Type 0} → true ≡ false → X
+apart e = let z : _≡_ {A = ℕ} 0 1 = cc in absurd (omega arith)
+
+module _ (start : ℕ) (s : State) (next : ℕ → State → Way) where
+  pub from-ends : (g : Got) → ends g ≡ true → orFrom start (out g s) next ≡ out g s
+  unfolding ends orFrom
+  from-ends (Got.Done f k) e = refl
+  from-ends Got.Missed e = apart (cc)
+  from-ends (Got.MissedAt t) e = apart (cc)
+  from-ends Got.Stuck e = refl
+
+  pub from-goes : (g : Got) → ends g ≡ false → orFrom start (out g s) next ≡ next (startAfter start g) s
+  unfolding ends orFrom startAfter
+  from-goes (Got.Done f k) e = apart e
+  from-goes Got.Missed e = refl
+  from-goes (Got.MissedAt t) e = refl
+  from-goes Got.Stuck e = apart e
 
 row-small : (w : ℕ) → localOf w .row / 32 < 2 ^ 44
 unfolding localOf
@@ -53,9 +89,9 @@ module _ (h : Header) (pairs : List ℕ) (q : Request) (name : Name) (j : ℕ) (
   unfolding getLocal
   local-small k s = take-small (topUp k c q name j) (top-small k) s
 
-  -- so where an own local answers with its tree
-  pub start-small : (k t : ℕ) (g : Got) (s e : State) → out g e ≡ getLocal k c q name j s → g ≡ Got.MissedAt t → t < 2 ^ 44
-  start-small k t g s e p r = subst Small (sym (ap (λ (x : Got). out x e) (sym r) ∙ p)) (local-small k s)
+  -- so is the start after it
+  pub start-small : (k start : ℕ) (g : Got) (s e : State) → out g e ≡ getLocal k c q name j s → start < 2 ^ 44 → startAfter start g < 2 ^ 44
+  start-small k start g s e p r = after-small start g e r (subst Small (sym p) (local-small k s))
 
 -- the start tree of a local
 pub start-fits : (n m i : ℕ) → n ≤ 1024 → i < 2 ^ 32 → n / m * i < 2 ^ 44

@@ -12,6 +12,8 @@ ghost use Rattle.rules.specs.declared.Given.the-variants as Given;
 ghost use Rattle.ways.specs.State.{st, ended, indexOf};
 ghost use Rattle.ways.specs.Get.{startTree, getReserving, searchTrees, getAny, routes};
 ghost use Rattle.ways.specs.Fits.{Fits};
+ghost use Rattle.routes.specs.Start.{startAfter};
+ghost use Rattle.routes.specs.Turn.{reserving};
 
 // n / m, rounded down, times i.
 fn portion(n: usize, m: usize, i: usize) -> usize
@@ -31,6 +33,18 @@ fn start_tree(h: Header, table: &[u32; 64], q: Request, i: usize) -> usize
         return 0;
     }
     portion(words::tree_count(h.frames), m, i)
+}
+
+// The start of a search after the own local: the tree of a present reservation that failed, or else the start as given.
+fn start_after(got: Got, start: usize) -> usize
+    ensures { λ r. ⌜ r ≡ startAfter start got ⌝ }
+{
+    match got {
+        Got::Done { frame: _, class: _ } => start,
+        Got::Missed => start,
+        Got::MissedAt(t) => t,
+        Got::Stuck => start,
+    }
 }
 
 // Own local, then reserving search; a present own reservation that failed gives its tree as the start.
@@ -54,19 +68,25 @@ fn get_reserving(
     let name = Name::Any;
     let r = take::get_local(h, table, trees, locals, bits, q, name, j, 1, looks, tries);
     let got = r.got;
-    match got {
-        Got::Done { frame: _, class: _ } => r,
-        Got::Missed => {
-            search::search_and_reserve(h, table, trees, locals, bits, q, j, start, r.looks, r.tries)
-        }
-        Got::MissedAt(t) => {
-            search::search_and_reserve(h, table, trees, locals, bits, q, j, t, r.looks, r.tries)
-        }
-        Got::Stuck => r,
+    if ends::ends(got) {
+        return r;
+    }
+    let from = start_after(got, start);
+    search::search_and_reserve(h, table, trees, locals, bits, q, j, from, r.looks, r.tries)
+}
+
+// Whether the own local is asked and the search reserves: a local is given, and its class has fewer locals than there are trees.
+fn reserves(h: Header, table: &[u32; 64], q: Request, local: Given) -> bool
+    requires { ⌜ Fits h q ⌝ }
+    ensures { λ r. ⌜ r ≡ reserving (config h (now (table .entry))) q local ⌝ }
+{
+    match local {
+        Given::Local(_) => words::locals_of(h, q.class) < words::tree_count(h.frames),
+        Given::Nothing => false,
     }
 }
 
-// If a local is given and the class has fewer locals than trees, own local, then reserving search; else stealing search.
+// Own local, then reserving search; or the stealing search.
 fn search_trees(
     h: Header,
     table: &[u32; 64],
@@ -83,19 +103,13 @@ fn search_trees(
         ≡ searchTrees (config h (now (table .entry))) q local (st (now (trees .entry)) (now (locals .entry)) (now (bits .entry)) looks tries))
         × ((r .looks ≤ looks + 4096) × (r .tries ≤ tries + 8193)) ⌝ }
 {
-    match local {
-        Given::Local(i) => {
-            let start = start_tree(h, table, q, i);
-            if words::locals_of(h, q.class) < words::tree_count(h.frames) {
-                let j = words::slot(h, q.class, i);
-                return get_reserving(h, table, trees, locals, bits, q, j, start, looks, tries);
-            }
-            search::search_and_steal(h, table, trees, locals, bits, q, start, looks, tries)
-        }
-        Given::Nothing => {
-            search::search_and_steal(h, table, trees, locals, bits, q, 0, looks, tries)
-        }
+    let i = steps::index_of(local);
+    let start = start_tree(h, table, q, i);
+    if reserves(h, table, q, local) {
+        let j = words::slot(h, q.class, i);
+        return get_reserving(h, table, trees, locals, bits, q, j, start, looks, tries);
     }
+    search::search_and_steal(h, table, trees, locals, bits, q, start, looks, tries)
 }
 
 // No name: the search, then steal from locals, then demote.

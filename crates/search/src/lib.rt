@@ -7,11 +7,11 @@ use ways::Walk;
 ghost use mathlib.Core.Path.{_≡_};
 ghost use Prim.Native.Nat.{_+_, _^_, _<_, _≤_};
 ghost use Rattle.rules.specs.Words.{config, treeCount};
-ghost use Rattle.ways.specs.declared.Walk.the-variants as Walk;
 ghost use Rattle.ways.specs.State.{st, ended};
 ghost use Rattle.ways.specs.Walk.{searchBest};
-ghost use Rattle.ways.specs.Search.{near, searchFrom, searchAndReserve, searchAndSteal};
+ghost use Rattle.ways.specs.Search.{searchAndReserve, searchAndSteal};
 ghost use Rattle.ways.specs.Fits.{Fits};
+ghost use Rattle.search.specs.Near.{nearFirst};
 
 // A walk over all trees, the far or the stealing one: 0 to n, with a list of 8.
 fn search_all(
@@ -44,7 +44,7 @@ fn search_all(
     search_best::search_best(h, table, trees, locals, bits, q, w, j, p, looks, tries)
 }
 
-// The near walk: 1 to near, with a list of 3.
+// Below order 9 the near walk: 1 to near, with a list of 3.
 fn search_near(
     h: Header,
     table: &[u32; 64],
@@ -59,10 +59,12 @@ fn search_near(
 ) -> Routed
     requires { ⌜ Fits h q × ((start < 2 ^ 44) × ((looks < 2 ^ 29) × (tries < 2 ^ 29))) ⌝ }
     ensures { λ r. ⌜ (ended r (now (trees .exit)) (now (locals .exit)) (now (bits .exit))
-        ≡ searchBest (config h (now (table .entry))) q Walk.Near j 3 (treeCount 11 (h .frames)) start 1 (near (treeCount 11 (h .frames)))
-        (st (now (trees .entry)) (now (locals .entry)) (now (bits .entry)) looks tries))
+        ≡ nearFirst (config h (now (table .entry))) q j start (st (now (trees .entry)) (now (locals .entry)) (now (bits .entry)) looks tries))
         × ((r .looks ≤ looks + 64) × (r .tries ≤ tries + 67)) ⌝ }
 {
+    if 9 <= q.order {
+        return ends::missed(looks, tries);
+    }
     let n = words::tree_count(h.frames);
     let last = spans::near(n);
     let p = Path {
@@ -76,38 +78,7 @@ fn search_near(
     search_best::search_best(h, table, trees, locals, bits, q, w, j, p, looks, tries)
 }
 
-// Below order 9 the near walk; then the far walk.
-fn search_from(
-    h: Header,
-    table: &[u32; 64],
-    trees: &mut [u32],
-    locals: &mut [u64],
-    bits: &mut [u64],
-    q: Request,
-    j: usize,
-    start: usize,
-    looks: usize,
-    tries: usize,
-) -> Routed
-    requires { ⌜ Fits h q × ((start < 2 ^ 44) × ((looks < 2 ^ 28) × (tries < 2 ^ 28))) ⌝ }
-    ensures { λ r. ⌜ (ended r (now (trees .exit)) (now (locals .exit)) (now (bits .exit))
-        ≡ searchFrom (config h (now (table .entry))) q j start (st (now (trees .entry)) (now (locals .entry)) (now (bits .entry)) looks tries))
-        × ((r .looks ≤ looks + 2048) × (r .tries ≤ tries + 2048)) ⌝ }
-{
-    let w = Walk::Far;
-    if q.order < 9 {
-        let r = search_near(h, table, trees, locals, bits, q, j, start, looks, tries);
-        let got = r.got;
-        if ends::ends(got) {
-            return r;
-        }
-        let seen = r.looks;
-        return search_all(h, table, trees, locals, bits, q, w, j, start, seen, r.tries);
-    }
-    search_all(h, table, trees, locals, bits, q, w, j, start, looks, tries)
-}
-
-// The reserving search, for the local j.
+// The reserving search, for the local j: below order 9 the near walk; then the far walk.
 pub fn search_and_reserve(
     h: Header,
     table: &[u32; 64],
@@ -127,7 +98,25 @@ pub fn search_and_reserve(
 {
     let n = words::tree_count(h.frames);
     let from = spans::rounded_start(n, start);
-    search_from(h, table, trees, locals, bits, q, j, from, looks, tries)
+    let r = search_near(h, table, trees, locals, bits, q, j, from, looks, tries);
+    let got = r.got;
+    if ends::ends(got) {
+        return r;
+    }
+    let w = Walk::Far;
+    search_all(
+        h,
+        table,
+        trees,
+        locals,
+        bits,
+        q,
+        w,
+        j,
+        from,
+        r.looks,
+        r.tries,
+    )
 }
 
 // The stealing search: walk 0 to n, with a list of 8, plain ratings.

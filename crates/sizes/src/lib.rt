@@ -1,19 +1,11 @@
-// The sizes of blocks: 2^order, as a number, and as the frames of a block.
+// The size of a block: 2^order.
 ghost use mathlib.Core.Path.{_≡_};
 ghost use Prim.Native.Nat.{_^_, _≤_};
 
-// 2^order.
+// 2^order, the frames of a block.
 pub fn size(order: usize) -> usize
     requires { ⌜ order ≤ 18 ⌝ }
-    ensures { λ r. ⌜ r ≡ 2 ^ order ⌝ }
+    ensures { λ r. ⌜ (r ≡ 2 ^ order) × (r ≤ 2 ^ 18) ⌝ }
 {
     1usize << order
-}
-
-// The frames of a block, 2^order.
-pub fn frames(order: usize) -> u32
-    requires { ⌜ order ≤ 11 ⌝ }
-    ensures { λ r. ⌜ r ≡ 2 ^ order ⌝ }
-{
-    size(order) as u32
 }

@@ -7,9 +7,12 @@ use rules::Took;
 use ways::Routed;
 use ways::Walk;
 ghost use mathlib.Core.Path.{_≡_};
-ghost use Prim.Native.Nat.{_+_, _^_, _<_, _≤_};
-ghost use Rattle.rules.specs.Words.{config};
-ghost use Rattle.ways.specs.State.{st, ended};
+ghost use Prim.Native.Nat.{ℕ, _+_, _^_, _<_, _≤_};
+ghost use Rattle.rules.specs.Base.{ifte};
+ghost use Rattle.rules.specs.Words.{Config, config};
+ghost use Rattle.rules.specs.declared.Name.the-variants.{Any};
+ghost use Rattle.rules.specs.declared.Request.{Request};
+ghost use Rattle.ways.specs.State.{State, st, ended};
 ghost use Rattle.ways.specs.Walk.{stealGlobal, reserveOrSteal, access};
 ghost use Rattle.ways.specs.Fits.{Fits};
 
@@ -31,7 +34,7 @@ pub fn steal_global(
         ≡ stealGlobal (config h (now (table .entry))) q name t (st (now (trees .entry)) (now (locals .entry)) (now (bits .entry)) looks tries))
         × ((r .looks ≤ looks) × (r .tries ≤ tries + 1)) ⌝ }
 {
-    match tree_takes::steal(h, table, trees, t, q.class, sizes::frames(q.order) as usize) {
+    match tree_takes::steal(h, table, trees, t, q.class, sizes::size(q.order)) {
         Took::No => ends::missed(looks, tries),
         Took::Yes(e) => {
             let row = t * 32;
@@ -58,14 +61,7 @@ fn reserve_or_steal(
         ≡ reserveOrSteal (config h (now (table .entry))) q j t (st (now (trees .entry)) (now (locals .entry)) (now (bits .entry)) looks tries))
         × ((r .looks ≤ looks) × (r .tries ≤ tries + 1)) ⌝ }
 {
-    match tree_takes::reserve_or_steal(
-        h,
-        table,
-        trees,
-        t,
-        q.class,
-        sizes::frames(q.order) as usize,
-    ) {
+    match tree_takes::reserve_or_steal(h, table, trees, t, q.class, sizes::size(q.order)) {
         Taken::No => ends::missed(looks, tries),
         Taken::Part(e) => {
             let name = Name::Any;
@@ -75,6 +71,18 @@ fn reserve_or_steal(
         Taken::Whole(e, old) => {
             reserves::reserved(h, table, trees, locals, bits, q, j, t, old, looks, tries)
         }
+    }
+}
+
+// Whether a walk steals what it finds, and reserves nothing.
+fn steals(walk: Walk) -> bool
+    ensures { λ r. ⌜ ((c : Config) (q : Request) (j t : ℕ) (s : State) → access c q walk j t s
+        ≡ ifte r (λ _. stealGlobal c q Any t s) (λ _. reserveOrSteal c q j t s)) ⌝ }
+{
+    match walk {
+        Walk::Near => false,
+        Walk::Far => false,
+        Walk::Stealing => true,
     }
 }
 
@@ -97,11 +105,8 @@ pub fn access(
         ≡ access (config h (now (table .entry))) q walk j t (st (now (trees .entry)) (now (locals .entry)) (now (bits .entry)) looks tries))
         × ((r .looks ≤ looks) × (r .tries ≤ tries + 1)) ⌝ }
 {
-    match walk {
-        Walk::Near => { reserve_or_steal(h, table, trees, locals, bits, q, j, t, looks, tries) }
-        Walk::Far => { reserve_or_steal(h, table, trees, locals, bits, q, j, t, looks, tries) }
-        Walk::Stealing => {
-            steal_global(h, table, trees, locals, bits, q, Name::Any, t, looks, tries)
-        }
+    if steals(walk) {
+        return steal_global(h, table, trees, locals, bits, q, Name::Any, t, looks, tries);
     }
+    reserve_or_steal(h, table, trees, locals, bits, q, j, t, looks, tries)
 }

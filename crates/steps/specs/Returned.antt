@@ -45,6 +45,12 @@ module _ {A : Type 0} (s : State) (next fails : State → A) where
   unfolding unreserve returned
   unreserve-returned c t k n = back-next _
 
+  -- by its answer
+  pub returned-if : (b : Bool) (ts : List ℕ) → onReturned (out b ts) s next fails ≡ ifte b (λ _. next (withTrees s ts)) (λ _. fails (withTrees s ts))
+  unfolding onReturned ifte
+  returned-if true ts = refl
+  returned-if false ts = refl
+
   if-next : (b : Bool) (x : A) (y : Out Bool (List ℕ)) → x ≡ onReturned y s next fails
       → ifte b (λ _. x) (λ _. next s) ≡ onReturned (ifte b (λ _. y) (λ _. out true (s .trees))) s next fails
   unfolding ifte onReturned withTrees

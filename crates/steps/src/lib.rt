@@ -47,7 +47,7 @@ pub fn ask_lower(
     match lower::lower_get(bits, row, q.order, name) {
         Found::At(f) => ends::done(f, class, looks, tries + 1),
         Found::Nothing => {
-            trees::put(h, table, trees, row / 32, sizes::frames(q.order) as usize);
+            trees::put(h, table, trees, row / 32, sizes::size(q.order));
             ends::missed(looks, tries + 1)
         }
     }

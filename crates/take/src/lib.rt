@@ -31,7 +31,7 @@ pub fn get_local(
         ≡ getLocal syncs (config h (now (table .entry))) q name j (st (now (trees .entry)) (now (locals .entry)) (now (bits .entry)) looks tries))
         × ((r .looks ≤ looks) × (r .tries ≤ tries + 1)) ⌝ }
 {
-    match local_frames::take(locals, j, name, sizes::frames(q.order) as usize) {
+    match local_frames::take(locals, j, name, sizes::size(q.order)) {
         Held::Row(row) => own::at_row(h, table, trees, locals, bits, q, name, j, row, looks, tries),
         Held::Few { row, free } => top_up(
             h,
@@ -76,7 +76,7 @@ fn top_up(
     if syncs == 0 {
         return ends::missed_at(row / 32, looks, tries);
     }
-    let n = sizes::frames(q.order) as usize;
+    let n = sizes::size(q.order);
     if own::topped(h, table, trees, locals, j, row, free, n) {
         let k = syncs - 1;
         return get_local(h, table, trees, locals, bits, q, name, j, k, looks, tries);

@@ -19,7 +19,7 @@ unfolding rate policy
 returns-2 c = (
   rw (
     c .before .before .before .if1 .left,
-    ← c .before .before .size .ensures,
+    ← c .before .before .size .ensures .0,
     lt-ltb _ _ (c .if2 .taken),
   ),
   search needs,
@@ -36,7 +36,7 @@ unfolding rate policy
 returns-3 c = (
   rw (
     c .before .before .before .before .before .if1 .left,
-    ← c .before .before .before .before .size .ensures,
+    ← c .before .before .before .before .size .ensures .0,
     le-ltb _ _ (c .before .before .if2 .left),
     ← c .before .pair-at .ensures,
     ← c .rated-of .ensures .0,

@@ -9,19 +9,19 @@ size-requires : tie.Need-size-requires
 size-requires c κs = search needs
 
 mul-b : tie.Need-mul-b
-mul-b c = let s = start-small _ _ _ _ (c .size .ensures) (c .before .before .pre) in omega arith
+mul-b c = let s = start-small _ _ _ _ (c .size .ensures .0) (c .before .before .pre) in omega arith
 
 mul-part : tie.Need-mul-part
-mul-part c = let s = start-small _ _ _ _ (c .before .size .ensures) (c .before .before .before .pre) in omega arith
+mul-part c = let s = start-small _ _ _ _ (c .before .size .ensures .0) (c .before .before .before .pre) in omega arith
 
 shared-slice-read-part : tie.Need-shared-slice-read-part
-shared-slice-read-part c = let s = start-small _ _ _ _ (c .before .before .size .ensures) (c .before .before .before .before .pre) in omega arith
+shared-slice-read-part c = let s = start-small _ _ _ _ (c .before .before .size .ensures .0) (c .before .before .before .before .pre) in omega arith
 
 part-requires : tie.Need-part-requires
 part-requires c κs = search (needs, shift-lt)
 
 zero-words-requires : tie.Need-zero-words-requires
-zero-words-requires c κs = words-large _ _ _ _ (c .before .size .ensures) (c .before .before .before .pre) (c .if1 .left)
+zero-words-requires c κs = words-large _ _ _ _ (c .before .size .ensures .0) (c .before .before .before .pre) (c .if1 .left)
 
 returns : tie.Need-returns
 returns c = search (needs, free-part)

@@ -11,13 +11,13 @@ size-requires : tie.Need-size-requires
 size-requires c κs = search needs
 
 mul-part : tie.Need-mul-part
-mul-part c = omega (arith, word-start _ _ _ _ (c .size .ensures) (c .before .pre .1))
+mul-part c = omega (arith, word-start _ _ _ _ (c .size .ensures .0) (c .before .pre .1))
 
 part-requires : tie.Need-part-requires
-part-requires c κs = let s = word-start _ _ _ _ (c .size .ensures) (c .before .pre .1) in let p = pow-pos (c .before .args .order) in (omega (arith, c .size .ensures), shift-lt (word (c .before .args .w)) _ (c .before .args .block) _ (c .size .ensures) (c .before .pre .0))
+part-requires c κs = let s = word-start _ _ _ _ (c .size .ensures .0) (c .before .pre .1) in let p = pow-pos (c .before .args .order) in (omega (arith, c .size .ensures .0), shift-lt (word (c .before .args .w)) _ (c .before .args .block) _ (c .size .ensures .0) (c .before .pre .0))
 
 returns : tie.Need-returns
-returns c = word-free _ _ _ _ (c .before .size .ensures) (c .before .before .pre .1) _ (c .part .ensures) (c .before .before .pre .0)
+returns c = word-free _ _ _ _ (c .before .size .ensures .0) (c .before .before .pre .1) _ (c .part .ensures) (c .before .before .pre .0)
 
 pub word-free-spec : {M : Type 1} → statement M
 word-free-spec = tie.close (tie.spec size-requires mul-part part-requires returns)

@@ -10,25 +10,25 @@ size-requires : tie.Need-size-requires
 size-requires c κs = search needs
 
 mul-b : tie.Need-mul-b
-mul-b c = let s = start-small _ _ _ _ (c .size .ensures) (c .before .before .pre .0) in omega arith
+mul-b c = let s = start-small _ _ _ _ (c .size .ensures .0) (c .before .before .pre .0) in omega arith
 
 mul-filled : tie.Need-mul-filled
-mul-filled c = let s = start-small _ _ _ _ (c .before .size .ensures) (c .before .before .before .pre .0) in omega arith
+mul-filled c = let s = start-small _ _ _ _ (c .before .size .ensures .0) (c .before .before .before .pre .0) in omega arith
 
 slice-read-filled : tie.Need-slice-read-filled
-slice-read-filled c = let s = start-small _ _ _ _ (c .before .before .size .ensures) (c .before .before .before .before .pre .0) in omega arith
+slice-read-filled c = let s = start-small _ _ _ _ (c .before .before .size .ensures .0) (c .before .before .before .before .pre .0) in omega arith
 
 filled-requires : tie.Need-filled-requires
-filled-requires c κs = field-free _ _ _ _ (c .before .before .size .ensures) (c .before .if1 .taken) (c .before .before .before .before .pre .1)
+filled-requires c κs = field-free _ _ _ _ (c .before .before .size .ensures .0) (c .before .if1 .taken) (c .before .before .before .before .pre .1)
 
 mul-words : tie.Need-mul-words
-mul-words c = let s = start-small _ _ _ _ (c .before .before .before .size .ensures) (c .before .before .before .before .before .pre .0) in omega arith
+mul-words c = let s = start-small _ _ _ _ (c .before .before .before .size .ensures .0) (c .before .before .before .before .before .pre .0) in omega arith
 
 slice-write-words : tie.Need-slice-write-words
-slice-write-words c = let s = start-small _ _ _ _ (c .before .before .before .size .ensures) (c .before .before .before .before .before .pre .0) in omega arith
+slice-write-words c = let s = start-small _ _ _ _ (c .before .before .before .size .ensures .0) (c .before .before .before .before .before .pre .0) in omega arith
 
 set-words-requires : tie.Need-set-words-requires
-set-words-requires c κs = words-large _ _ _ _ (c .before .before .size .ensures) (c .before .before .before .before .pre .0) (c .before .if1 .left)
+set-words-requires c κs = words-large _ _ _ _ (c .before .before .size .ensures .0) (c .before .before .before .before .pre .0) (c .before .if1 .left)
 
 same-length : tie.Need-same-length
 same-length c = search needs

@@ -10,25 +10,25 @@ size-requires : tie.Need-size-requires
 size-requires c κs = search needs
 
 mul-b : tie.Need-mul-b
-mul-b c = let s = start-small _ _ _ _ (c .size .ensures) (c .before .before .pre .0) in omega arith
+mul-b c = let s = start-small _ _ _ _ (c .size .ensures .0) (c .before .before .pre .0) in omega arith
 
 mul-emptied : tie.Need-mul-emptied
-mul-emptied c = let s = start-small _ _ _ _ (c .before .size .ensures) (c .before .before .before .pre .0) in omega arith
+mul-emptied c = let s = start-small _ _ _ _ (c .before .size .ensures .0) (c .before .before .before .pre .0) in omega arith
 
 slice-read-emptied : tie.Need-slice-read-emptied
-slice-read-emptied c = let s = start-small _ _ _ _ (c .before .before .size .ensures) (c .before .before .before .before .pre .0) in omega arith
+slice-read-emptied c = let s = start-small _ _ _ _ (c .before .before .size .ensures .0) (c .before .before .before .before .pre .0) in omega arith
 
 emptied-requires : tie.Need-emptied-requires
-emptied-requires c κs = field-held _ _ _ _ (c .before .before .size .ensures) (c .before .if1 .taken) (c .before .before .before .before .pre .1)
+emptied-requires c κs = field-held _ _ _ _ (c .before .before .size .ensures .0) (c .before .if1 .taken) (c .before .before .before .before .pre .1)
 
 mul-words : tie.Need-mul-words
-mul-words c = let s = start-small _ _ _ _ (c .before .before .before .size .ensures) (c .before .before .before .before .before .pre .0) in omega arith
+mul-words c = let s = start-small _ _ _ _ (c .before .before .before .size .ensures .0) (c .before .before .before .before .before .pre .0) in omega arith
 
 slice-write-words : tie.Need-slice-write-words
-slice-write-words c = let s = start-small _ _ _ _ (c .before .before .before .size .ensures) (c .before .before .before .before .before .pre .0) in omega arith
+slice-write-words c = let s = start-small _ _ _ _ (c .before .before .before .size .ensures .0) (c .before .before .before .before .before .pre .0) in omega arith
 
 set-words-requires : tie.Need-set-words-requires
-set-words-requires c κs = words-large _ _ _ _ (c .before .before .size .ensures) (c .before .before .before .before .pre .0) (c .before .if1 .left)
+set-words-requires c κs = words-large _ _ _ _ (c .before .before .size .ensures .0) (c .before .before .before .before .pre .0) (c .before .if1 .left)
 
 same-length : tie.Need-same-length
 same-length c = search needs

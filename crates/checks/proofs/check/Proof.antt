@@ -21,7 +21,7 @@ unfolding outcomeOf numberOf refusal ifte
 returns-2 c =
     rw (
       le-ltb _ _ (c .before .before .before .if1 .left),
-      ← c .before .before .size .ensures,
+      ← c .before .before .size .ensures .0,
       sum-over _ (c .before .before .before .before .before .args .frame) _ (c .if2 .taken),
     )
 
@@ -30,12 +30,12 @@ unfolding outcomeOf numberOf refusal ifte
 returns-3 c =
     rw (
       le-ltb _ _ (c .before .before .before .before .before .if1 .left),
-      ← c .before .before .before .before .size .ensures,
+      ← c .before .before .before .before .size .ensures .0,
       sum-past _ _ _ (c .before .before .if2 .left) (c .if3 .taken),
     )
 
 rem-if4 : tie.Need-rem-if4
-rem-if4 c = rw (c .before .before .before .before .size .ensures) (pow-pos _)
+rem-if4 c = rw (c .before .before .before .before .size .ensures .0) (pow-pos _)
 
 check-class-requires : tie.Need-check-class-requires
 check-class-requires c κs = search needs
@@ -45,7 +45,7 @@ unfolding outcomeOf numberOf refusal ifte
 returns-4 c =
     rw (
       le-ltb _ _ (c .before .before .before .before .before .before .before .if1 .left),
-      ← c .before .before .before .before .before .before .size .ensures,
+      ← c .before .before .before .before .before .before .size .ensures .0,
       sum-within _ _ _ (c .before .before .before .before .if2 .left) (c .before .before .if3 .left),
       eq-eqb _ _ (c .before .if4 .taken),
       ← c .check-class .ensures,
@@ -56,7 +56,7 @@ unfolding outcomeOf numberOf refusal ifte
 returns-5 c =
     rw (
       le-ltb _ _ (c .before .before .before .before .before .before .if1 .left),
-      ← c .before .before .before .before .before .size .ensures,
+      ← c .before .before .before .before .before .size .ensures .0,
       sum-within _ _ _ (c .before .before .before .if2 .left) (c .before .if3 .left),
       ne-eqb _ _ (c .if4 .left),
     )

@@ -1,6 +1,8 @@
 -- `demotes::demote_local` meets its contract. Assumes nothing.
+use mathlib.Core.Path.{_∙_}
+use Rattle.ways.specs.Locals.{demoteLocal, moveFrom}
+use Rattle.ways.specs.State.{onHeld, onSwap, withLocals}
 use native.Mathlib.Omega.{arith}
-use Rattle.ways.specs.Locals.{demoteLocal}
 use borrow.Author.Needs.{needs}
 use Rattle.demotes.proofs.demote_local.Statement.{statement}
 use Rattle.demotes.proofs.demote_local.Tie as tie
@@ -8,37 +10,114 @@ use Rattle.demotes.proofs.demote_local.Tie as tie
 index-of-requires : tie.Need-index-of-requires
 index-of-requires c κs = search needs
 
-frames-requires : tie.Need-frames-requires
-frames-requires c κs = search needs
-
-cast-demote-any : tie.Need-cast-demote-any
-cast-demote-any c = search needs
+size-requires : tie.Need-size-requires
+size-requires c κs = search needs
 
 demote-any-requires : tie.Need-demote-any-requires
 demote-any-requires c κs = search needs
 
-move-from-requires : tie.Need-move-from-requires
-move-from-requires c κs = search needs
+enum-known-payer : tie.Need-enum-known-payer
+enum-known-payer c = search needs
+
+enum-told : tie.Need-enum-told
+enum-told c = search needs
+
+missed-requires : tie.Need-missed-requires
+missed-requires c κs = search needs
 
 same-length : tie.Need-same-length
-same-length c = omega (arith, c .before .before .before .before .before .before .move-from .kept)
-
-same-length-2 : tie.Need-same-length-2
-same-length-2 c = omega (arith, c .before .before .before .before .before .before .move-from .kept)
-
-same-length-3 : tie.Need-same-length-3
-same-length-3 c = omega (arith, c .before .before .before .before .before .before .move-from .kept)
+same-length c = search needs
 
 returns : tie.Need-returns
-unfolding demoteLocal
+unfolding demoteLocal moveFrom onHeld onSwap withLocals
 returns c = (
+  rw (← c .before .before .before .before .before .before .index-of .ensures, ← c .before .before .before .before .before .size .ensures .0, ← c .before .before .before .demote-any .ensures, c .before .enum-told .given .1) (c .missed .ensures .0 _ _ _),
+  omega (arith, c .missed .ensures .1),
+)
+
+take-requires : tie.Need-take-requires
+take-requires c κs = search needs
+
+enum-told-2 : tie.Need-enum-told-2
+enum-told-2 c = search needs
+
+clear-requires : tie.Need-clear-requires
+clear-requires c κs = search needs
+
+demote-to-requires : tie.Need-demote-to-requires
+demote-to-requires c κs = (c .before .before .before .before .before .before .before .before .before .before .before .before .before .before .before .before .before .before .before .before .before .before .before .pre .0, (omega (arith, c .before .before .before .before .before .clear .ensures .1), c .before .before .before .before .before .before .before .before .before .before .before .before .before .before .before .before .before .before .before .before .before .before .before .pre .1))
+
+enum-told-3 : tie.Need-enum-told-3
+enum-told-3 c = search needs
+
+missed-requires-2 : tie.Need-missed-requires-2
+missed-requires-2 c κs = search needs
+
+enum-told-4 : tie.Need-enum-told-4
+enum-told-4 c = search needs
+
+missed-requires-3 : tie.Need-missed-requires-3
+missed-requires-3 c κs = search needs
+
+same-length-2 : tie.Need-same-length-2
+same-length-2 c = c .before .before .before .before .before .before .demote-to .kept .1 .1 .0
+
+same-length-3 : tie.Need-same-length-3
+same-length-3 c = c .before .before .before .before .before .before .demote-to .kept .1 .1 .1 .0 ∙ c .before .before .before .before .before .before .before .before .before .before .before .before .clear .kept .0 ∙ c .before .before .before .before .before .before .before .before .before .before .before .before .before .before .before .before .before .before .take .kept .0
+
+same-length-4 : tie.Need-same-length-4
+same-length-4 c = c .before .before .before .before .before .before .demote-to .kept .1 .1 .1 .1 .0
+
+returns-2 : tie.Need-returns-2
+unfolding demoteLocal moveFrom onHeld onSwap withLocals
+returns-2 c = (
   rw (
-    ← c .before .before .before .before .before .before .before .before .before .before .before .before .index-of .ensures,
-    ← c .before .before .before .before .before .before .before .before .before .before .before .frames .ensures,
+    ← c .before .before .before .before .before .before .before .before .before .before .before .before .before .before .before .before .before .before .before .before .before .before .before .before .before .before .index-of .ensures,
+    ← c .before .before .before .before .before .before .before .before .before .before .before .before .before .before .before .before .before .before .before .before .before .before .before .before .before .size .ensures .0,
+    ← c .before .before .before .before .before .before .before .before .before .before .before .before .before .before .before .before .before .before .before .before .before .before .before .demote-any .ensures,
+    c .before .before .before .before .before .before .before .before .before .before .before .before .before .before .before .before .before .before .before .before .before .payer .given .1,
+    ← c .before .before .before .before .before .before .before .before .before .before .before .before .before .before .before .before .before .before .before .before .before .before .before .before .before .size .ensures .0,
+    ← c .before .before .before .before .before .before .before .before .before .before .before .before .before .before .before .before .before .before .take .ensures,
+    c .before .before .before .before .before .before .before .before .before .before .before .before .before .before .enum-told2 .given .1,
+    ← c .before .before .before .before .before .before .before .before .before .before .before .before .clear .ensures .0,
+  ) (c .before .before .before .before .before .before .demote-to .ensures .0),
+  c .before .before .before .before .before .before .demote-to .ensures .1,
+)
+
+same-length-5 : tie.Need-same-length-5
+same-length-5 c = c .before .before .before .before .before .take .kept .0
+
+returns-3 : tie.Need-returns-3
+unfolding demoteLocal moveFrom onHeld onSwap withLocals
+returns-3 c = (
+  rw (
+    ← c .before .before .before .before .before .before .before .before .before .before .before .before .before .index-of .ensures,
+    ← c .before .before .before .before .before .before .before .before .before .before .before .before .size .ensures .0,
     ← c .before .before .before .before .before .before .before .before .before .before .demote-any .ensures,
-    ← c .before .before .before .before .before .before .move-from .ensures .0,
-  ),
-  omega (arith, c .before .before .before .before .before .before .move-from .ensures .1),
+    c .before .before .before .before .before .before .before .before .payer .given .1,
+    ← c .before .before .before .before .before .before .before .before .before .before .before .before .size .ensures .0,
+    ← c .before .before .before .before .before .take .ensures,
+    c .before .enum-told3 .given .1,
+  ) (c .missed2 .ensures .0 _ _ _),
+  omega (arith, c .missed2 .ensures .1),
+)
+
+same-length-6 : tie.Need-same-length-6
+same-length-6 c = c .before .before .before .before .before .take .kept .0
+
+returns-4 : tie.Need-returns-4
+unfolding demoteLocal moveFrom onHeld onSwap withLocals
+returns-4 c = (
+  rw (
+    ← c .before .before .before .before .before .before .before .before .before .before .before .before .before .index-of .ensures,
+    ← c .before .before .before .before .before .before .before .before .before .before .before .before .size .ensures .0,
+    ← c .before .before .before .before .before .before .before .before .before .before .demote-any .ensures,
+    c .before .before .before .before .before .before .before .before .payer .given .1,
+    ← c .before .before .before .before .before .before .before .before .before .before .before .before .size .ensures .0,
+    ← c .before .before .before .before .before .take .ensures,
+    c .before .enum-told4 .given .1,
+  ) (c .missed3 .ensures .0 _ _ _),
+  omega (arith, c .missed3 .ensures .1),
 )
 
 pub demote-local-spec : {M : Type 1} → statement M
@@ -46,11 +125,26 @@ demote-local-spec =
     tie.close
     (tie.spec
     index-of-requires
-    frames-requires
-    cast-demote-any
+    size-requires
     demote-any-requires
-    move-from-requires
+    enum-known-payer
+    enum-told
+    missed-requires
     same-length
+    returns
+    take-requires
+    enum-told-2
+    clear-requires
+    demote-to-requires
+    enum-told-3
+    missed-requires-2
+    enum-told-4
+    missed-requires-3
     same-length-2
     same-length-3
-    returns)
+    same-length-4
+    returns-2
+    same-length-5
+    returns-3
+    same-length-6
+    returns-4)

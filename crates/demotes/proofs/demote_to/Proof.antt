@@ -1,10 +1,11 @@
 -- `demotes::demote_to` meets its contract. Assumes nothing.
-use native.Mathlib.Omega.{arith}
+use mathlib.Core.Path.{_∙_}
 use Rattle.steps.specs.Returned.{local-returned, onReturned, unreserve-returned}
 use Rattle.ways.specs.Fits.{given-small}
 use Rattle.ways.specs.Locals.{demoteTo}
 use Rattle.ways.specs.State.{onSwap, withLocals, withTrees}
 use borrow.Author.Tests.{not-true, not-false}
+use native.Mathlib.Omega.{arith}
 use borrow.Author.Needs.{needs}
 use Rattle.demotes.proofs.demote_to.Statement.{statement}
 use Rattle.demotes.proofs.demote_to.Tie as tie
@@ -25,10 +26,10 @@ stuck-requires : tie.Need-stuck-requires
 stuck-requires c κs = search needs
 
 same-length : tie.Need-same-length
-same-length c = omega (arith, c .before .before .before .before .unreserve-local .kept, c .before .before .before .before .before .before .before .before .swap .kept)
+same-length c = c .before .before .before .before .unreserve-local .kept .1 .1 .0
 
 same-length-2 : tie.Need-same-length-2
-same-length-2 c = omega (arith, c .before .before .before .before .unreserve-local .kept, c .before .before .before .before .before .before .before .before .swap .kept)
+same-length-2 c = c .before .before .before .before .before .before .before .before .swap .kept .0
 
 returns : tie.Need-returns
 unfolding demoteTo onSwap onReturned withTrees withLocals
@@ -57,7 +58,7 @@ stuck-requires-2 : tie.Need-stuck-requires-2
 stuck-requires-2 c κs = search needs
 
 same-length-3 : tie.Need-same-length-3
-same-length-3 c = omega (arith, c .before .before .before .before .unreserve .kept)
+same-length-3 c = c .before .before .before .before .unreserve .kept .1 .1 .0
 
 returns-2 : tie.Need-returns-2
 unfolding demoteTo onSwap onReturned withTrees withLocals
@@ -75,13 +76,13 @@ ask-lower-requires-2 : tie.Need-ask-lower-requires-2
 ask-lower-requires-2 c κs = search needs
 
 same-length-4 : tie.Need-same-length-4
-same-length-4 c = omega (arith, c .before .before .before .before .ask-lower .kept, c .before .before .before .before .before .before .before .before .before .before .unreserve-local .kept, c .before .before .before .before .before .before .before .before .before .before .before .before .before .before .swap .kept)
+same-length-4 c = c .before .before .before .before .ask-lower .kept .1 .1 .0 ∙ c .before .before .before .before .before .before .before .before .before .before .unreserve-local .kept .1 .1 .0
 
 same-length-5 : tie.Need-same-length-5
-same-length-5 c = omega (arith, c .before .before .before .before .ask-lower .kept, c .before .before .before .before .before .before .before .before .before .before .unreserve-local .kept, c .before .before .before .before .before .before .before .before .before .before .before .before .before .before .swap .kept)
+same-length-5 c = c .before .before .before .before .before .before .before .before .before .before .before .before .before .before .swap .kept .0
 
 same-length-6 : tie.Need-same-length-6
-same-length-6 c = omega (arith, c .before .before .before .before .ask-lower .kept, c .before .before .before .before .before .before .before .before .before .before .unreserve-local .kept, c .before .before .before .before .before .before .before .before .before .before .before .before .before .before .swap .kept)
+same-length-6 c = c .before .before .before .before .ask-lower .kept .1 .1 .1 .0
 
 returns-3 : tie.Need-returns-3
 unfolding demoteTo onSwap onReturned withTrees withLocals
@@ -95,14 +96,14 @@ returns-3 c = (
     not-false (c .before .before .before .before .before .before .before .before .before .before .unreserve-local .result) (c .before .before .before .before .before .before .before .if1 .left),
     ← c .before .before .before .before .before .before .before .before .before .before .before .before .before .before .before .before .before .before .local .given .1,
   ) (c .before .before .before .before .ask-lower .ensures .0 _),
-  omega (arith, c .before .before .before .before .ask-lower .ensures .1),
+  c .before .before .before .before .ask-lower .ensures .1,
 )
 
 same-length-7 : tie.Need-same-length-7
-same-length-7 c = omega (arith, c .before .before .before .before .ask-lower2 .kept, c .before .before .before .before .before .before .before .before .before .before .unreserve .kept)
+same-length-7 c = c .before .before .before .before .ask-lower2 .kept .1 .1 .0 ∙ c .before .before .before .before .before .before .before .before .before .before .unreserve .kept .1 .1 .0
 
 same-length-8 : tie.Need-same-length-8
-same-length-8 c = omega (arith, c .before .before .before .before .ask-lower2 .kept, c .before .before .before .before .before .before .before .before .before .before .unreserve .kept)
+same-length-8 c = c .before .before .before .before .ask-lower2 .kept .1 .1 .1 .0
 
 returns-4 : tie.Need-returns-4
 unfolding demoteTo onSwap onReturned withTrees withLocals
@@ -114,7 +115,7 @@ returns-4 c = (
     not-false (c .before .before .before .before .before .before .before .before .before .before .unreserve .result) (c .before .before .before .before .before .before .before .if2 .left),
     ← c .before .before .before .before .before .before .before .before .before .before .before .before .before .enum-told .given .1,
   ) (c .before .before .before .before .ask-lower2 .ensures .0 _),
-  omega (arith, c .before .before .before .before .ask-lower2 .ensures .1),
+  c .before .before .before .before .ask-lower2 .ensures .1,
 )
 
 pub demote-to-spec : {M : Type 1} → statement M

@@ -18,7 +18,7 @@ size-requires : tie.Need-size-requires
 size-requires c κs = search needs
 
 mul-f : tie.Need-mul-f
-mul-f c = let b = find-is 11 _ _ (omega arith) (omega arith) (c .before .before .before .before .before .before .before .pre) _ _ _ (sym (c .before .before .before .before .find-block .ensures) ∙ c .before .before .j .given .1) in let m = start-small _ _ _ _ (c .size .ensures) (b .block) in omega (arith, b .block .small)
+mul-f c = let b = find-is 11 _ _ (omega arith) (omega arith) (c .before .before .before .before .before .before .before .pre) _ _ _ (sym (c .before .before .before .before .find-block .ensures) ∙ c .before .before .j .given .1) in let m = start-small _ _ _ _ (c .size .ensures .0) (b .block) in omega (arith, b .block .small)
 
 hold-requires : tie.Need-hold-requires
 hold-requires c κs = let b = find-is 11 _ _ (omega arith) (omega arith) (c .before .before .before .before .before .before .before .before .pre) _ _ _ (sym (c .before .before .before .before .before .find-block .ensures) ∙ c .before .before .before .j .given .1) in (b .block, b .free)
@@ -35,7 +35,7 @@ returns c =
     rw (
       ← c .before .before .before .before .before .before .before .before .find-block .ensures,
       c .before .before .before .before .before .before .j .given .1,
-      ← c .before .before .before .before .size .ensures,
+      ← c .before .before .before .before .size .ensures .0,
       ← c .before .before .hold .ensures,
     )
 

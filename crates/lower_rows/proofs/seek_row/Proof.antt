@@ -21,13 +21,13 @@ size-requires : tie.Need-size-requires
 size-requires c κs = search needs
 
 mul-b : tie.Need-mul-b
-mul-b c = let m = word-mul _ (c .before .before .before .before .args .row) _ (c .size .ensures) in omega (arith, c .before .before .before .before .pre .1 .inside, c .before .before .before .before .pre .1 .small)
+mul-b c = let m = word-mul _ (c .before .before .before .before .args .row) _ (c .size .ensures .0) in omega (arith, c .before .before .before .before .pre .1 .inside, c .before .before .before .before .pre .1 .small)
 
 add-t11 : tie.Need-add-t11
-add-t11 c = let m = word-mul _ (c .before .before .before .before .before .args .row) _ (c .before .size .ensures) in omega (arith, c .before .before .before .before .before .pre .1 .inside, c .before .before .before .before .before .pre .1 .small)
+add-t11 c = let m = word-mul _ (c .before .before .before .before .before .args .row) _ (c .before .size .ensures .0) in omega (arith, c .before .before .before .before .before .pre .1 .inside, c .before .before .before .before .before .pre .1 .small)
 
 returns : tie.Need-returns
-returns c = word-found _ _ _ (c .before .before .before .before .before .pre .0) _ _ (c .before .before .first-block .ensures) (c .before .size .ensures) (c .if1 .taken)
+returns c = word-found _ _ _ (c .before .before .before .before .before .pre .0) _ _ (c .before .before .first-block .ensures) (c .before .size .ensures .0) (c .if1 .taken)
 
 returns-2 : tie.Need-returns-2
 returns-2 c = word-none _ _ _ (c .before .before .before .before .before .pre .0) _ (c .before .size .result) (c .before .before .first-block .ensures) (c .if1 .left)

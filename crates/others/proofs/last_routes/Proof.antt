@@ -1,8 +1,8 @@
 -- `others::last_routes` meets its contract. Assumes nothing.
-use native.Mathlib.Omega.{arith}
 use Rattle.ends.specs.Ends.{else-ends, else-goes}
 use Rattle.ways.specs.Get.{lastRoutes}
 use mathlib.Core.Path.{sym, _∙_}
+use native.Mathlib.Omega.{arith}
 use borrow.Author.Needs.{needs}
 use Rattle.others.proofs.last_routes.Statement.{statement}
 use Rattle.others.proofs.last_routes.Tie as tie
@@ -14,21 +14,18 @@ ends-requires : tie.Need-ends-requires
 ends-requires c κs = search needs
 
 same-length : tie.Need-same-length
-same-length c = omega (arith, c .before .before .before .before .before .before .before .before .steal-local .kept)
+same-length c = c .before .before .before .before .before .before .before .before .steal-local .kept .1 .1 .0
 
 same-length-2 : tie.Need-same-length-2
-same-length-2 c = omega (arith, c .before .before .before .before .before .before .before .before .steal-local .kept)
+same-length-2 c = c .before .before .before .before .before .before .before .before .steal-local .kept .1 .1 .1 .0
 
 same-length-3 : tie.Need-same-length-3
-same-length-3 c = omega (arith, c .before .before .before .before .before .before .before .before .steal-local .kept)
+same-length-3 c = c .before .before .before .before .before .before .before .before .steal-local .kept .1 .1 .1 .1 .0
 
 returns : tie.Need-returns
 unfolding lastRoutes
 returns c = (
-  rw (
-    ← c .before .before .before .before .before .before .before .before .steal-local .ensures .0,
-    else-ends _ _ _ (sym (c .before .ends .ensures) ∙ c .if1 .taken),
-  ),
+  rw (← c .before .before .before .before .before .before .before .before .steal-local .ensures .0, else-ends _ _ _ (sym (c .before .ends .ensures) ∙ c .if1 .taken)),
   omega (arith, c .before .before .before .before .before .before .before .before .steal-local .ensures .1),
 )
 
@@ -36,22 +33,18 @@ demote-local-requires : tie.Need-demote-local-requires
 demote-local-requires c κs = search needs
 
 same-length-4 : tie.Need-same-length-4
-same-length-4 c = omega (arith, c .before .before .before .before .before .before .demote-local .kept, c .before .before .before .before .before .before .before .before .before .before .before .before .before .before .before .before .before .before .steal-local .kept)
+same-length-4 c = c .before .before .before .before .before .before .demote-local .kept .1 .1 .0 ∙ c .before .before .before .before .before .before .before .before .before .before .before .before .before .before .before .before .before .before .steal-local .kept .1 .1 .0
 
 same-length-5 : tie.Need-same-length-5
-same-length-5 c = omega (arith, c .before .before .before .before .before .before .demote-local .kept, c .before .before .before .before .before .before .before .before .before .before .before .before .before .before .before .before .before .before .steal-local .kept)
+same-length-5 c = c .before .before .before .before .before .before .demote-local .kept .1 .1 .1 .0 ∙ c .before .before .before .before .before .before .before .before .before .before .before .before .before .before .before .before .before .before .steal-local .kept .1 .1 .1 .0
 
 same-length-6 : tie.Need-same-length-6
-same-length-6 c = omega (arith, c .before .before .before .before .before .before .demote-local .kept, c .before .before .before .before .before .before .before .before .before .before .before .before .before .before .before .before .before .before .steal-local .kept)
+same-length-6 c = c .before .before .before .before .before .before .demote-local .kept .1 .1 .1 .1 .0 ∙ c .before .before .before .before .before .before .before .before .before .before .before .before .before .before .before .before .before .before .steal-local .kept .1 .1 .1 .1 .0
 
 returns-2 : tie.Need-returns-2
 unfolding lastRoutes
 returns-2 c = (
-  rw (
-    ← c .before .before .before .before .before .before .before .before .before .before .before .before .before .before .before .before .before .before .steal-local .ensures .0,
-    else-goes _ _ _ (sym (c .before .before .before .before .before .before .before .before .before .before .before .ends .ensures) ∙ c .before .before .before .before .before .before .before .before .before .before .if1 .left),
-    ← c .before .before .before .before .before .before .demote-local .ensures .0,
-  ),
+  rw (← c .before .before .before .before .before .before .before .before .before .before .before .before .before .before .before .before .before .before .steal-local .ensures .0, else-goes _ _ _ (sym (c .before .before .before .before .before .before .before .before .before .before .before .ends .ensures) ∙ c .before .before .before .before .before .before .before .before .before .before .if1 .left)) (c .before .before .before .before .before .before .demote-local .ensures .0),
   omega (arith, c .before .before .before .before .before .before .demote-local .ensures .1, c .before .before .before .before .before .before .before .before .before .before .before .before .before .before .before .before .before .before .steal-local .ensures .1),
 )
 

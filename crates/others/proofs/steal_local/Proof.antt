@@ -1,6 +1,7 @@
 -- `others::steal_local` meets its contract. Assumes nothing.
+use Rattle.ways.specs.Locals.{stealLocal, payFrom}
+use Rattle.ways.specs.State.{onHeld, withLocals}
 use native.Mathlib.Omega.{arith}
-use Rattle.ways.specs.Locals.{stealLocal}
 use borrow.Author.Needs.{needs}
 use Rattle.others.proofs.steal_local.Statement.{statement}
 use Rattle.others.proofs.steal_local.Tie as tie
@@ -8,37 +9,110 @@ use Rattle.others.proofs.steal_local.Tie as tie
 index-of-requires : tie.Need-index-of-requires
 index-of-requires c κs = search needs
 
-frames-requires : tie.Need-frames-requires
-frames-requires c κs = search needs
-
-cast-steal-any : tie.Need-cast-steal-any
-cast-steal-any c = search needs
+size-requires : tie.Need-size-requires
+size-requires c κs = search needs
 
 steal-any-requires : tie.Need-steal-any-requires
 steal-any-requires c κs = search needs
 
-pay-from-requires : tie.Need-pay-from-requires
-pay-from-requires c κs = search needs
+enum-known-payer : tie.Need-enum-known-payer
+enum-known-payer c = search needs
+
+enum-told : tie.Need-enum-told
+enum-told c = search needs
+
+missed-requires : tie.Need-missed-requires
+missed-requires c κs = search needs
 
 same-length : tie.Need-same-length
-same-length c = omega (arith, c .before .before .before .before .before .before .pay-from .kept)
-
-same-length-2 : tie.Need-same-length-2
-same-length-2 c = omega (arith, c .before .before .before .before .before .before .pay-from .kept)
-
-same-length-3 : tie.Need-same-length-3
-same-length-3 c = omega (arith, c .before .before .before .before .before .before .pay-from .kept)
+same-length c = search needs
 
 returns : tie.Need-returns
-unfolding stealLocal
+unfolding stealLocal payFrom onHeld withLocals
 returns c = (
+  rw (← c .before .before .before .before .before .before .index-of .ensures, ← c .before .before .before .before .before .size .ensures .0, ← c .before .before .before .steal-any .ensures, c .before .enum-told .given .1) (c .missed .ensures .0 _ _ _),
+  omega (arith, c .missed .ensures .1),
+)
+
+take-requires : tie.Need-take-requires
+take-requires c κs = search needs
+
+enum-known-row : tie.Need-enum-known-row
+enum-known-row c = search needs
+
+ask-lower-requires : tie.Need-ask-lower-requires
+ask-lower-requires c κs = search needs
+
+enum-told-2 : tie.Need-enum-told-2
+enum-told-2 c = search needs
+
+missed-requires-2 : tie.Need-missed-requires-2
+missed-requires-2 c κs = search needs
+
+enum-told-3 : tie.Need-enum-told-3
+enum-told-3 c = search needs
+
+missed-requires-3 : tie.Need-missed-requires-3
+missed-requires-3 c κs = search needs
+
+same-length-2 : tie.Need-same-length-2
+same-length-2 c = c .before .before .before .before .ask-lower .kept .1 .1 .0
+
+same-length-3 : tie.Need-same-length-3
+same-length-3 c = c .before .before .before .before .before .before .before .before .before .before .before .before .take .kept .0
+
+same-length-4 : tie.Need-same-length-4
+same-length-4 c = c .before .before .before .before .ask-lower .kept .1 .1 .1 .0
+
+returns-2 : tie.Need-returns-2
+unfolding stealLocal payFrom onHeld withLocals
+returns-2 c = (
   rw (
-    ← c .before .before .before .before .before .before .before .before .before .before .before .before .index-of .ensures,
-    ← c .before .before .before .before .before .before .before .before .before .before .before .frames .ensures,
+    ← c .before .before .before .before .before .before .before .before .before .before .before .before .before .before .before .before .before .before .before .before .index-of .ensures,
+    ← c .before .before .before .before .before .before .before .before .before .before .before .before .before .before .before .before .before .before .before .size .ensures .0,
+    ← c .before .before .before .before .before .before .before .before .before .before .before .before .before .before .before .before .before .steal-any .ensures,
+    c .before .before .before .before .before .before .before .before .before .before .before .before .before .before .before .payer .given .1,
+    ← c .before .before .before .before .before .before .before .before .before .before .before .before .before .before .before .before .before .before .before .size .ensures .0,
+    ← c .before .before .before .before .before .before .before .before .before .before .before .before .take .ensures,
+    c .before .before .before .before .before .before .before .before .row .given .1,
+  ) (c .before .before .before .before .ask-lower .ensures .0 _),
+  c .before .before .before .before .ask-lower .ensures .1,
+)
+
+same-length-5 : tie.Need-same-length-5
+same-length-5 c = c .before .before .before .before .before .take .kept .0
+
+returns-3 : tie.Need-returns-3
+unfolding stealLocal payFrom onHeld withLocals
+returns-3 c = (
+  rw (
+    ← c .before .before .before .before .before .before .before .before .before .before .before .before .before .index-of .ensures,
+    ← c .before .before .before .before .before .before .before .before .before .before .before .before .size .ensures .0,
     ← c .before .before .before .before .before .before .before .before .before .before .steal-any .ensures,
-    ← c .before .before .before .before .before .before .pay-from .ensures .0,
-  ),
-  omega (arith, c .before .before .before .before .before .before .pay-from .ensures .1),
+    c .before .before .before .before .before .before .before .before .payer .given .1,
+    ← c .before .before .before .before .before .before .before .before .before .before .before .before .size .ensures .0,
+    ← c .before .before .before .before .before .take .ensures,
+    c .before .enum-told2 .given .1,
+  ) (c .missed2 .ensures .0 _ _ _),
+  omega (arith, c .missed2 .ensures .1),
+)
+
+same-length-6 : tie.Need-same-length-6
+same-length-6 c = c .before .before .before .before .before .take .kept .0
+
+returns-4 : tie.Need-returns-4
+unfolding stealLocal payFrom onHeld withLocals
+returns-4 c = (
+  rw (
+    ← c .before .before .before .before .before .before .before .before .before .before .before .before .before .index-of .ensures,
+    ← c .before .before .before .before .before .before .before .before .before .before .before .before .size .ensures .0,
+    ← c .before .before .before .before .before .before .before .before .before .before .steal-any .ensures,
+    c .before .before .before .before .before .before .before .before .payer .given .1,
+    ← c .before .before .before .before .before .before .before .before .before .before .before .before .size .ensures .0,
+    ← c .before .before .before .before .before .take .ensures,
+    c .before .enum-told3 .given .1,
+  ) (c .missed3 .ensures .0 _ _ _),
+  omega (arith, c .missed3 .ensures .1),
 )
 
 pub steal-local-spec : {M : Type 1} → statement M
@@ -46,11 +120,25 @@ steal-local-spec =
     tie.close
     (tie.spec
     index-of-requires
-    frames-requires
-    cast-steal-any
+    size-requires
     steal-any-requires
-    pay-from-requires
+    enum-known-payer
+    enum-told
+    missed-requires
     same-length
+    returns
+    take-requires
+    enum-known-row
+    ask-lower-requires
+    enum-told-2
+    missed-requires-2
+    enum-told-3
+    missed-requires-3
     same-length-2
     same-length-3
-    returns)
+    same-length-4
+    returns-2
+    same-length-5
+    returns-3
+    same-length-6
+    returns-4)

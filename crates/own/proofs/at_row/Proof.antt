@@ -24,11 +24,8 @@ done-requires c κs = search needs
 enum-told : tie.Need-enum-told
 enum-told c = search needs
 
-frames-requires : tie.Need-frames-requires
-frames-requires c κs = search needs
-
-cast-put : tie.Need-cast-put
-cast-put c = search needs
+size-requires : tie.Need-size-requires
+size-requires c κs = search needs
 
 put-requires : tie.Need-put-requires
 put-requires c κs = search needs
@@ -68,7 +65,7 @@ returns-2 c = (
   rw (
     ← c .before .before .before .before .before .before .before .before .before .before .lower-get .ensures,
     c .before .before .before .before .before .before .enum-told .given .1,
-    ← c .before .before .before .before .frames .ensures,
+    ← c .before .before .before .before .size .ensures .0,
     ← c .before .before .before .put .ensures,
   ) (c .missed-at .ensures .0 _ _ _),
   (search needs, search needs),
@@ -84,8 +81,7 @@ at-row-spec =
     add-done
     done-requires
     enum-told
-    frames-requires
-    cast-put
+    size-requires
     put-requires
     add-missed-at
     missed-at-requires

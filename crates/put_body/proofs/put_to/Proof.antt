@@ -6,11 +6,8 @@ use borrow.Author.Needs.{needs}
 use Rattle.put_body.proofs.put_to.Statement.{statement}
 use Rattle.put_body.proofs.put_to.Tie as tie
 
-frames-requires : tie.Need-frames-requires
-frames-requires c κs = search needs
-
-cast-n : tie.Need-cast-n
-cast-n c = search needs
+size-requires : tie.Need-size-requires
+size-requires c κs = search needs
 
 enum-told : tie.Need-enum-told
 enum-told c = search needs
@@ -38,7 +35,7 @@ unfolding putTo onPut putEntry withTrees withLocals
 returns c =
     λ b. rw (
       c .before .before .before .before .before .before .before .local .given .1,
-      ← c .before .before .before .before .before .before .before .before .before .frames .ensures,
+      ← c .before .before .before .before .before .before .before .before .before .size .ensures .0,
       ← c .before .before .before .before .before .slot .ensures,
       ← c .before .before .before .put2 .ensures,
       c .if1 .taken,
@@ -55,7 +52,7 @@ unfolding putTo onPut putEntry withTrees withLocals
 returns-2 c =
     λ b. rw (
       c .before .before .before .before .enum-told .given .1,
-      ← c .before .before .before .before .before .before .frames .ensures,
+      ← c .before .before .before .before .before .before .size .ensures .0,
       ← c .before .before .put .ensures,
     )
 
@@ -70,7 +67,7 @@ unfolding putTo onPut putEntry withTrees withLocals
 returns-3 c =
     λ b. rw (
       c .before .before .before .before .before .before .before .before .before .before .before .local .given .1,
-      ← c .before .before .before .before .before .before .before .before .before .before .before .before .before .frames .ensures,
+      ← c .before .before .before .before .before .before .before .before .before .before .before .before .before .size .ensures .0,
       ← c .before .before .before .before .before .before .before .before .before .slot .ensures,
       ← c .before .before .before .before .before .before .before .put2 .ensures,
       c .before .before .before .before .if1 .left,
@@ -81,8 +78,7 @@ pub put-to-spec : {M : Type 1} → statement M
 put-to-spec =
     tie.close
     (tie.spec
-    frames-requires
-    cast-n
+    size-requires
     enum-told
     put-requires
     enum-known-local

@@ -1,6 +1,9 @@
 -- `search::search_and_reserve` meets its contract. Assumes nothing.
+use Rattle.ends.specs.Ends.{else-ends, else-goes}
+use Rattle.search.specs.Near.{near-far}
+use Rattle.ways.specs.Search.{searchAndReserve, searchFar}
+use mathlib.Core.Path.{sym, _∙_}
 use native.Mathlib.Omega.{arith}
-use Rattle.ways.specs.Search.{searchAndReserve}
 use borrow.Author.Needs.{needs}
 use Rattle.search.proofs.search_and_reserve.Statement.{statement}
 use Rattle.search.proofs.search_and_reserve.Tie as tie
@@ -11,27 +14,57 @@ tree-count-requires c κs = search needs
 rounded-start-requires : tie.Need-rounded-start-requires
 rounded-start-requires c κs = search needs
 
-search-from-requires : tie.Need-search-from-requires
-search-from-requires c κs = search needs
+search-near-requires : tie.Need-search-near-requires
+search-near-requires c κs = search needs
+
+ends-requires : tie.Need-ends-requires
+ends-requires c κs = search needs
 
 same-length : tie.Need-same-length
-same-length c = omega (arith, c .before .before .before .before .before .before .search-from .kept)
+same-length c = c .before .before .before .before .before .before .before .before .search-near .kept .1 .1 .0
 
 same-length-2 : tie.Need-same-length-2
-same-length-2 c = omega (arith, c .before .before .before .before .before .before .search-from .kept)
+same-length-2 c = c .before .before .before .before .before .before .before .before .search-near .kept .1 .1 .1 .0
 
 same-length-3 : tie.Need-same-length-3
-same-length-3 c = omega (arith, c .before .before .before .before .before .before .search-from .kept)
+same-length-3 c = c .before .before .before .before .before .before .before .before .search-near .kept .1 .1 .1 .1 .0
 
 returns : tie.Need-returns
 unfolding searchAndReserve
 returns c = (
   rw (
-    ← c .before .before .before .before .before .before .before .before .before .before .before .tree-count .ensures .0,
-    ← c .before .before .before .before .before .before .before .before .before .before .rounded-start .ensures .0,
-    ← c .before .before .before .before .before .before .search-from .ensures .0,
+    ← c .before .before .before .before .before .before .before .before .before .before .before .before .before .tree-count .ensures .0,
+    ← c .before .before .before .before .before .before .before .before .before .before .before .before .rounded-start .ensures .0,
+    near-far _ _ _ _ _,
+    ← c .before .before .before .before .before .before .before .before .search-near .ensures .0,
+    else-ends _ _ _ (sym (c .before .ends .ensures) ∙ c .if1 .taken),
   ),
-  omega (arith, c .before .before .before .before .before .before .search-from .ensures .1),
+  omega (arith, c .before .before .before .before .before .before .before .before .search-near .ensures .1),
+)
+
+search-all-requires : tie.Need-search-all-requires
+search-all-requires c κs = search needs
+
+same-length-4 : tie.Need-same-length-4
+same-length-4 c = c .before .before .before .before .before .before .search-all .kept .1 .1 .0 ∙ c .before .before .before .before .before .before .before .before .before .before .before .before .before .before .before .before .before .before .search-near .kept .1 .1 .0
+
+same-length-5 : tie.Need-same-length-5
+same-length-5 c = c .before .before .before .before .before .before .search-all .kept .1 .1 .1 .0 ∙ c .before .before .before .before .before .before .before .before .before .before .before .before .before .before .before .before .before .before .search-near .kept .1 .1 .1 .0
+
+same-length-6 : tie.Need-same-length-6
+same-length-6 c = c .before .before .before .before .before .before .search-all .kept .1 .1 .1 .1 .0 ∙ c .before .before .before .before .before .before .before .before .before .before .before .before .before .before .before .before .before .before .search-near .kept .1 .1 .1 .1 .0
+
+returns-2 : tie.Need-returns-2
+unfolding searchAndReserve searchFar
+returns-2 c = (
+  rw (
+    ← c .before .before .before .before .before .before .before .before .before .before .before .before .before .before .before .before .before .before .before .before .before .before .before .tree-count .ensures .0,
+    ← c .before .before .before .before .before .before .before .before .before .before .before .before .before .before .before .before .before .before .before .before .before .before .rounded-start .ensures .0,
+    near-far _ _ _ _ _,
+    ← c .before .before .before .before .before .before .before .before .before .before .before .before .before .before .before .before .before .before .search-near .ensures .0,
+    else-goes _ _ _ (sym (c .before .before .before .before .before .before .before .before .before .before .before .ends .ensures) ∙ c .before .before .before .before .before .before .before .before .before .before .if1 .left),
+  ) (c .before .before .before .before .before .before .search-all .ensures .0),
+  omega (arith, c .before .before .before .before .before .before .search-all .ensures .1, c .before .before .before .before .before .before .before .before .before .before .before .before .before .before .before .before .before .before .search-near .ensures .1),
 )
 
 pub search-and-reserve-spec : {M : Type 1} → statement M
@@ -40,8 +73,14 @@ search-and-reserve-spec =
     (tie.spec
     tree-count-requires
     rounded-start-requires
-    search-from-requires
+    search-near-requires
+    ends-requires
     same-length
     same-length-2
     same-length-3
-    returns)
+    returns
+    search-all-requires
+    same-length-4
+    same-length-5
+    same-length-6
+    returns-2)

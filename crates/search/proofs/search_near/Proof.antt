@@ -1,8 +1,21 @@
 -- `search::search_near` meets its contract. Assumes nothing.
+use borrow.Author.Tests.{le-ltb, lt-ltb}
+use Rattle.rules.specs.Base.{ifte}
+use Rattle.search.specs.Near.{nearFirst}
 use native.Mathlib.Omega.{arith}
 use borrow.Author.Needs.{needs}
 use Rattle.search.proofs.search_near.Statement.{statement}
 use Rattle.search.proofs.search_near.Tie as tie
+
+missed-requires : tie.Need-missed-requires
+missed-requires c κs = search needs
+
+returns : tie.Need-returns
+unfolding nearFirst ifte
+returns c = (
+  rw (le-ltb _ _ (c .before .if1 .taken)) (c .missed .ensures .0 _ _ _),
+  omega (arith, c .missed .ensures .1),
+)
 
 tree-count-requires : tie.Need-tree-count-requires
 tree-count-requires c κs = search needs
@@ -11,35 +24,34 @@ near-requires : tie.Need-near-requires
 near-requires c κs = search needs
 
 search-best-requires : tie.Need-search-best-requires
-search-best-requires c κs = search needs
+search-best-requires c κs = (c .before .before .before .before .before .before .before .before .before .before .pre .0, (omega arith, ((c .before .before .before .before .tree-count .ensures .1 .0 (c .before .before .before .before .before .before .before .before .before .before .pre .0 .some), c .before .before .before .before .tree-count .ensures .1 .1), (c .before .before .before .before .before .before .before .before .before .before .pre .1 .0, (omega (arith, c .before .before .before .near .ensures .1), (omega arith, omega arith))))))
 
 same-length : tie.Need-same-length
-same-length c = omega (arith, c .before .before .before .before .before .before .search-best .kept)
+same-length c = c .before .before .before .before .before .before .search-best .kept .1 .1 .0
 
 same-length-2 : tie.Need-same-length-2
-same-length-2 c = omega (arith, c .before .before .before .before .before .before .search-best .kept)
+same-length-2 c = c .before .before .before .before .before .before .search-best .kept .1 .1 .1 .0
 
 same-length-3 : tie.Need-same-length-3
-same-length-3 c = omega (arith, c .before .before .before .before .before .before .search-best .kept)
+same-length-3 c = c .before .before .before .before .before .before .search-best .kept .1 .1 .1 .1 .0
 
-returns : tie.Need-returns
-returns c = (
-  rw (
-    ← c .before .before .before .before .before .before .before .before .before .before .before .tree-count .ensures .0,
-    ← c .before .before .before .before .before .before .before .before .before .before .near .ensures .0,
-    ← c .before .before .before .before .before .before .search-best .ensures .0,
-  ),
-  omega (arith, c .before .before .before .before .before .before .search-best .ensures .1, c .before .before .before .before .before .before .before .before .before .before .near .ensures .1, c .before .before .before .before .before .before .before .before .before .before .before .tree-count .ensures .1),
+returns-2 : tie.Need-returns-2
+unfolding nearFirst ifte
+returns-2 c = (
+  rw (lt-ltb _ _ (c .before .before .before .before .before .before .before .before .before .before .before .before .if1 .left), ← c .before .before .before .before .before .before .before .before .before .before .before .tree-count .ensures .0, ← c .before .before .before .before .before .before .before .before .before .before .near .ensures .0) (c .before .before .before .before .before .before .search-best .ensures .0),
+  omega (arith, c .before .before .before .before .before .before .search-best .ensures .1, c .before .before .before .before .before .before .before .before .before .before .near .ensures .1),
 )
 
 pub search-near-spec : {M : Type 1} → statement M
 search-near-spec =
     tie.close
     (tie.spec
+    missed-requires
+    returns
     tree-count-requires
     near-requires
     search-best-requires
     same-length
     same-length-2
     same-length-3
-    returns)
+    returns-2)

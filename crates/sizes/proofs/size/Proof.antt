@@ -1,5 +1,5 @@
 -- `sizes::size` meets its contract. Assumes nothing.
-use Rattle.lower_laws.specs.Power.{one-shl}
+use Rattle.lower_laws.specs.Power.{at-most, one-shl}
 use native.Mathlib.Omega.{arith}
 use borrow.Author.Needs.{needs}
 use Rattle.sizes.proofs.size.Statement.{statement}
@@ -9,7 +9,9 @@ shl-result : tie.Need-shl-result
 shl-result c = search needs
 
 returns : tie.Need-returns
-returns c = one-shl (c .args .order) (omega arith)
+returns c =
+    let e = one-shl (c .args .order) (omega arith) in
+    let p = at-most (c .args .order) 18 (c .pre) in (e, omega (arith, p .1, e))
 
 pub size-spec : {M : Type 1} → statement M
 size-spec = tie.close (tie.spec shl-result returns)

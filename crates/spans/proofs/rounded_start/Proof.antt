@@ -38,7 +38,7 @@ returns c =
     let l = c .before .before .before .loop in
     let a = c .before .before .before .before .before .args in
     let p = c .before .before .before .before .before .pre in
-    let h : 2 * near (a .n) ≤ 2 ^ l .e = omega (arith, c .if1 .taken, c .before .size .ensures, l .inv .1 .0) in (
+    let h : 2 * near (a .n) ≤ 2 ^ l .e = omega (arith, c .if1 .taken, c .before .size .ensures .0, l .inv .1 .0) in (
       rw (shifted (a .start) (l .e) (p .1)) (round-at (a .n) (a .start) (l .e) (c .before .before .loop-test .taken) (l .inv .1 .1) h),
       rw (shifted (a .start) (l .e) (p .1)) (div-mul-le-self (a .start) (2 ^ l .e)),
     )
@@ -53,7 +53,7 @@ loop-again : tie.Need-loop-again Inv-loop μ-loop
 loop-again c =
     let l = c .before .before .before .loop in
     let a = c .before .before .before .before .before .args in
-    let h : 2 ^ l .e < 2 * near (a .n) = omega (arith, c .if1 .left, c .before .size .ensures, l .inv .1 .0) in
+    let h : 2 ^ l .e < 2 * near (a .n) = omega (arith, c .if1 .left, c .before .size .ensures .0, l .inv .1 .0) in
     (search needs, (l .inv .1 .0, passed-more (a .n) (l .e) (l .inv .1 .1) h))
 
 returns-2 : tie.Need-returns-2 Inv-loop μ-loop

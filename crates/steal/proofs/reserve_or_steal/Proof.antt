@@ -1,17 +1,15 @@
 -- `steal::reserve_or_steal` meets its contract. Assumes nothing.
-use native.Mathlib.Omega.{arith}
-use Rattle.steal.specs.Row.{row-tree}
+use mathlib.Core.Path.{_≡_, _∙_}
+use Prim.Native.Nat.{_*_, _/_}
 use Rattle.ways.specs.State.{onTaken, withTrees}
 use Rattle.ways.specs.Walk.{reserveOrSteal}
+use native.Mathlib.Omega.{arith}
 use borrow.Author.Needs.{needs}
 use Rattle.steal.proofs.reserve_or_steal.Statement.{statement}
 use Rattle.steal.proofs.reserve_or_steal.Tie as tie
 
-frames-requires : tie.Need-frames-requires
-frames-requires c κs = search needs
-
-cast-reserve-or-steal : tie.Need-cast-reserve-or-steal
-cast-reserve-or-steal c = search needs
+size-requires : tie.Need-size-requires
+size-requires c κs = search needs
 
 reserve-or-steal-requires : tie.Need-reserve-or-steal-requires
 reserve-or-steal-requires c κs = search needs
@@ -38,63 +36,51 @@ reserved-requires : tie.Need-reserved-requires
 reserved-requires c κs = search needs
 
 same-length : tie.Need-same-length
-same-length c = omega (arith, c .before .before .before .before .before .reserve-or-steal .kept)
+same-length c = c .before .before .before .before .before .reserve-or-steal .kept .1 .1 .0
 
 returns : tie.Need-returns
 unfolding reserveOrSteal onTaken withTrees
 returns c = (
-  rw (
-    ← c .before .before .before .before .before .before .frames .ensures,
-    ← c .before .before .before .before .before .reserve-or-steal .ensures,
-    c .before .enum-told .given .1,
-  ) (c .missed .ensures .0 _ _ _),
+  rw (← c .before .before .before .before .before .before .size .ensures .0, ← c .before .before .before .before .before .reserve-or-steal .ensures, c .before .enum-told .given .1) (c .missed .ensures .0 _ _ _),
   (search needs, search needs),
 )
 
 same-length-2 : tie.Need-same-length-2
-same-length-2 c = omega (arith, c .before .before .before .before .ask-lower .kept, c .before .before .before .before .before .before .before .before .before .before .before .before .reserve-or-steal .kept)
+same-length-2 c = c .before .before .before .before .ask-lower .kept .1 .1 .0 ∙ c .before .before .before .before .before .before .before .before .before .before .before .before .reserve-or-steal .kept .1 .1 .0
 
 same-length-3 : tie.Need-same-length-3
-same-length-3 c = omega (arith, c .before .before .before .before .ask-lower .kept, c .before .before .before .before .before .before .before .before .before .before .before .before .reserve-or-steal .kept)
+same-length-3 c = c .before .before .before .before .ask-lower .kept .1 .1 .1 .0
 
 returns-2 : tie.Need-returns-2
 unfolding reserveOrSteal onTaken withTrees
-returns-2 c = (
-  rw (
-    ← c .before .before .before .before .before .before .before .before .before .before .before .before .before .frames .ensures,
-    ← c .before .before .before .before .before .before .before .before .before .before .before .before .reserve-or-steal .ensures,
-    c .before .before .before .before .before .before .before .before .e .given .1,
-  ) (rw (row-tree (c .before .before .before .before .before .before .before .before .before .before .before .before .before .before .before .before .before .before .args .t)) at (c .before .before .before .before .ask-lower .ensures .0 (c .before .before .before .before .before .before .before .before .before .before .before .before .before .before .before .before .before .before .args .locals .now))),
-  (search needs, search needs),
-)
+returns-2 c =
+    let e : c .before .before .before .before .before .before .before .before .before .before .before .before .before .before .before .before .before .before .args .t * 32 / 32 ≡ c .before .before .before .before .before .before .before .before .before .before .before .before .before .before .before .before .before .before .args .t = omega arith in (
+      rw (← c .before .before .before .before .before .before .before .before .before .before .before .before .before .size .ensures .0, ← c .before .before .before .before .before .before .before .before .before .before .before .before .reserve-or-steal .ensures, c .before .before .before .before .before .before .before .before .e .given .1)
+          (rw e at (c .before .before .before .before .ask-lower .ensures .0 (c .before .before .before .before .before .before .before .before .before .before .before .before .before .before .before .before .before .before .args .locals .now))),
+      c .before .before .before .before .ask-lower .ensures .1,
+    )
 
 same-length-4 : tie.Need-same-length-4
-same-length-4 c = omega (arith, c .before .before .before .before .before .before .reserved .kept, c .before .before .before .before .before .before .before .before .before .before .before .before .before .before .before .reserve-or-steal .kept)
+same-length-4 c = c .before .before .before .before .before .before .reserved .kept .1 .1 .0 ∙ c .before .before .before .before .before .before .before .before .before .before .before .before .before .before .before .reserve-or-steal .kept .1 .1 .0
 
 same-length-5 : tie.Need-same-length-5
-same-length-5 c = omega (arith, c .before .before .before .before .before .before .reserved .kept, c .before .before .before .before .before .before .before .before .before .before .before .before .before .before .before .reserve-or-steal .kept)
+same-length-5 c = c .before .before .before .before .before .before .reserved .kept .1 .1 .1 .0
 
 same-length-6 : tie.Need-same-length-6
-same-length-6 c = omega (arith, c .before .before .before .before .before .before .reserved .kept, c .before .before .before .before .before .before .before .before .before .before .before .before .before .before .before .reserve-or-steal .kept)
+same-length-6 c = c .before .before .before .before .before .before .reserved .kept .1 .1 .1 .1 .0
 
 returns-3 : tie.Need-returns-3
 unfolding reserveOrSteal onTaken withTrees
 returns-3 c = (
-  rw (
-    ← c .before .before .before .before .before .before .before .before .before .before .before .before .before .before .before .before .frames .ensures,
-    ← c .before .before .before .before .before .before .before .before .before .before .before .before .before .before .before .reserve-or-steal .ensures,
-    c .before .before .before .before .before .before .before .before .before .before .before .e2 .given .1,
-    ← c .before .before .before .before .before .before .reserved .ensures .0,
-  ),
-  (search needs, search needs),
+  rw (← c .before .before .before .before .before .before .before .before .before .before .before .before .before .before .before .before .size .ensures .0, ← c .before .before .before .before .before .before .before .before .before .before .before .before .before .before .before .reserve-or-steal .ensures, c .before .before .before .before .before .before .before .before .before .before .before .e2 .given .1) (c .before .before .before .before .before .before .reserved .ensures .0),
+  c .before .before .before .before .before .before .reserved .ensures .1,
 )
 
 pub reserve-or-steal-spec : {M : Type 1} → statement M
 reserve-or-steal-spec =
     tie.close
     (tie.spec
-    frames-requires
-    cast-reserve-or-steal
+    size-requires
     reserve-or-steal-requires
     enum-told
     missed-requires

@@ -1,17 +1,15 @@
 -- `steal::steal_global` meets its contract. Assumes nothing.
-use native.Mathlib.Omega.{arith}
-use Rattle.steal.specs.Row.{row-tree}
+use mathlib.Core.Path.{_≡_, _∙_}
+use Prim.Native.Nat.{_*_, _/_}
 use Rattle.ways.specs.State.{onTook, withTrees}
 use Rattle.ways.specs.Walk.{stealGlobal}
+use native.Mathlib.Omega.{arith}
 use borrow.Author.Needs.{needs}
 use Rattle.steal.proofs.steal_global.Statement.{statement}
 use Rattle.steal.proofs.steal_global.Tie as tie
 
-frames-requires : tie.Need-frames-requires
-frames-requires c κs = search needs
-
-cast-steal : tie.Need-cast-steal
-cast-steal c = search needs
+size-requires : tie.Need-size-requires
+size-requires c κs = search needs
 
 steal-requires : tie.Need-steal-requires
 steal-requires c κs = search needs
@@ -32,42 +30,35 @@ ask-lower-requires : tie.Need-ask-lower-requires
 ask-lower-requires c κs = search needs
 
 same-length : tie.Need-same-length
-same-length c = omega (arith, c .before .before .before .before .before .steal .kept)
+same-length c = c .before .before .before .before .before .steal .kept .1 .1 .0
 
 returns : tie.Need-returns
 unfolding stealGlobal onTook withTrees
 returns c = (
-  rw (
-    ← c .before .before .before .before .before .before .frames .ensures,
-    ← c .before .before .before .before .before .steal .ensures,
-    c .before .enum-told .given .1,
-  ) (c .missed .ensures .0 _ _ _),
+  rw (← c .before .before .before .before .before .before .size .ensures .0, ← c .before .before .before .before .before .steal .ensures, c .before .enum-told .given .1) (c .missed .ensures .0 _ _ _),
   (search needs, search needs),
 )
 
 same-length-2 : tie.Need-same-length-2
-same-length-2 c = omega (arith, c .before .before .before .before .ask-lower .kept, c .before .before .before .before .before .before .before .before .before .before .before .before .steal .kept)
+same-length-2 c = c .before .before .before .before .ask-lower .kept .1 .1 .0 ∙ c .before .before .before .before .before .before .before .before .before .before .before .before .steal .kept .1 .1 .0
 
 same-length-3 : tie.Need-same-length-3
-same-length-3 c = omega (arith, c .before .before .before .before .ask-lower .kept, c .before .before .before .before .before .before .before .before .before .before .before .before .steal .kept)
+same-length-3 c = c .before .before .before .before .ask-lower .kept .1 .1 .1 .0
 
 returns-2 : tie.Need-returns-2
 unfolding stealGlobal onTook withTrees
-returns-2 c = (
-  rw (
-    ← c .before .before .before .before .before .before .before .before .before .before .before .before .before .frames .ensures,
-    ← c .before .before .before .before .before .before .before .before .before .before .before .before .steal .ensures,
-    c .before .before .before .before .before .before .before .before .e .given .1,
-  ) (rw (row-tree (c .before .before .before .before .before .before .before .before .before .before .before .before .before .before .before .before .before .before .args .t)) at (c .before .before .before .before .ask-lower .ensures .0 (c .before .before .before .before .before .before .before .before .before .before .before .before .before .before .before .before .before .before .args .locals .now))),
-  (search needs, search needs),
-)
+returns-2 c =
+    let e : c .before .before .before .before .before .before .before .before .before .before .before .before .before .before .before .before .before .before .args .t * 32 / 32 ≡ c .before .before .before .before .before .before .before .before .before .before .before .before .before .before .before .before .before .before .args .t = omega arith in (
+      rw (← c .before .before .before .before .before .before .before .before .before .before .before .before .before .size .ensures .0, ← c .before .before .before .before .before .before .before .before .before .before .before .before .steal .ensures, c .before .before .before .before .before .before .before .before .e .given .1)
+          (rw e at (c .before .before .before .before .ask-lower .ensures .0 (c .before .before .before .before .before .before .before .before .before .before .before .before .before .before .before .before .before .before .args .locals .now))),
+      c .before .before .before .before .ask-lower .ensures .1,
+    )
 
 pub steal-global-spec : {M : Type 1} → statement M
 steal-global-spec =
     tie.close
     (tie.spec
-    frames-requires
-    cast-steal
+    size-requires
     steal-requires
     enum-told
     missed-requires

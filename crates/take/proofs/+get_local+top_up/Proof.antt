@@ -14,7 +14,7 @@ use Rattle.take.proofs.+get_local+top_up.Lts-get_local as get-local-lts
 use Rattle.take.proofs.top_up.Reads as top-up
 use Rattle.take.proofs.top_up.Kinds as top-up-kinds
 use Rattle.take.proofs.+get_local+top_up.Lts-top_up as top-up-lts
-use Rattle.sizes.proofs.frames.Reads as frames-reads
+use Rattle.sizes.proofs.size.Reads as size-reads
 use Rattle.ends.proofs.missed.Reads as missed-reads
 use Rattle.ends.proofs.missed_at.Reads as missed-at-reads
 use Rattle.local_frames.proofs.take.Reads as take-reads
@@ -45,8 +45,8 @@ top-up-below t = and 4 top-up-kinds.ps (falls 4 top-up-kinds.ps _<_ μ-top-up t)
 -- what `get_local` calls
 abbrev get-local-calls : ℕ → get-local-lts.Claims
 get-local-calls t = (
-  frames-reads.Asked,
-  frames-reads.Learnt,
+  size-reads.Asked,
+  size-reads.Learnt,
   take-reads.Asked,
   take-reads.Learnt,
   at-row-reads.Asked,
@@ -62,19 +62,16 @@ abbrev top-up-calls : ℕ → top-up-lts.Claims
 top-up-calls t = (
   missed-at-reads.Asked,
   missed-at-reads.Learnt,
-  frames-reads.Asked,
-  frames-reads.Learnt,
+  size-reads.Asked,
+  size-reads.Learnt,
   topped-reads.Asked,
   topped-reads.Learnt,
   get-local-below t,
   get-local.Post,
 )
 
-get-local-frames-requires : (t : ℕ) → get-local-lts.Need-frames-requires (get-local-calls t) (get-local-at t) get-local.Post
-get-local-frames-requires t c κs = search needs
-
-get-local-cast-take : (t : ℕ) → get-local-lts.Need-cast-take (get-local-calls t) (get-local-at t) get-local.Post
-get-local-cast-take t c = search needs
+get-local-size-requires : (t : ℕ) → get-local-lts.Need-size-requires (get-local-calls t) (get-local-at t) get-local.Post
+get-local-size-requires t c κs = search needs
 
 get-local-take-requires : (t : ℕ) → get-local-lts.Need-take-requires (get-local-calls t) (get-local-at t) get-local.Post
 get-local-take-requires t c κs = search needs
@@ -111,7 +108,7 @@ unfolding getLocal onHeld withLocals
 get-local-returns t c = (
   rw (
     take-parts _ _ _ _ _ _,
-    ← c .before .before .before .before .before .before .before .before .before .before .before .before .before .before .before .before .frames .ensures,
+    ← c .before .before .before .before .before .before .before .before .before .before .before .before .before .before .before .before .size .ensures .0,
     ← c .before .before .before .before .before .before .before .before .before .before .before .before .before .before .before .take .ensures,
     c .before .before .before .before .before .before .before .before .before .before .before .row .given .1,
   ) (c .before .before .before .before .before .before .at-row .ensures .0),
@@ -132,7 +129,7 @@ unfolding getLocal onHeld withLocals
 get-local-returns-2 t c = (
   rw (
     take-parts _ _ _ _ _ _,
-    ← c .before .before .before .before .before .before .before .before .before .before .before .before .before .before .before .before .frames .ensures,
+    ← c .before .before .before .before .before .before .before .before .before .before .before .before .before .before .before .before .size .ensures .0,
     ← c .before .before .before .before .before .before .before .before .before .before .before .before .before .before .before .take .ensures,
     c .before .before .before .before .before .before .before .before .before .before .before .row2 .given .1,
   ) (c .before .before .before .before .before .before .top-up .ensures .0),
@@ -147,7 +144,7 @@ unfolding getLocal onHeld withLocals
 get-local-returns-3 t c = (
   rw (
     take-parts _ _ _ _ _ _,
-    ← c .before .before .before .before .before .before .frames .ensures,
+    ← c .before .before .before .before .before .before .size .ensures .0,
     ← c .before .before .before .before .before .take .ensures,
     c .before .enum-told .given .1,
   ) (c .missed .ensures .0 _ _ _),
@@ -163,11 +160,8 @@ top-up-returns t c = (
   (search needs, search needs),
 )
 
-top-up-frames-requires : (t : ℕ) → top-up-lts.Need-frames-requires (top-up-calls t) (top-up-at t) top-up.Post
-top-up-frames-requires t c κs = search needs
-
-top-up-cast-n : (t : ℕ) → top-up-lts.Need-cast-n (top-up-calls t) (top-up-at t) top-up.Post
-top-up-cast-n t c = search needs
+top-up-size-requires : (t : ℕ) → top-up-lts.Need-size-requires (top-up-calls t) (top-up-at t) top-up.Post
+top-up-size-requires t c κs = search needs
 
 top-up-topped-requires : (t : ℕ) → top-up-lts.Need-topped-requires (top-up-calls t) (top-up-at t) top-up.Post
 top-up-topped-requires t c κs = search needs
@@ -193,7 +187,7 @@ top-up-returns-2 t c = (
   rw (
     topUp-more _ _ _ _ _ _ _ _ (c .before .before .before .before .before .before .before .before .before .before .before .before .before .before .before .before .before .before .before .if1 .left),
     top-topped _ _ _ _ _ _ _,
-    ← c .before .before .before .before .before .before .before .before .before .before .before .before .before .before .before .before .before .before .frames .ensures,
+    ← c .before .before .before .before .before .before .before .before .before .before .before .before .before .before .before .before .before .before .size .ensures .0,
     ← c .before .before .before .before .before .before .before .before .before .before .before .before .before .before .before .topped .ensures,
     c .before .before .before .before .before .before .before .before .before .before .if2 .taken,
   ) (c .before .before .before .before .before .before .get-local .ensures .0),
@@ -215,7 +209,7 @@ top-up-returns-3 t c = (
   rw (
     topUp-more _ _ _ _ _ _ _ _ (c .before .before .before .before .before .before .before .before .before .before .if1 .left),
     top-topped _ _ _ _ _ _ _,
-    ← c .before .before .before .before .before .before .before .before .before .frames .ensures,
+    ← c .before .before .before .before .before .before .before .before .before .size .ensures .0,
     ← c .before .before .before .before .before .before .topped .ensures,
     c .before .if2 .left,
   ) (c .missed-at2 .ensures .0 _ _ _),
@@ -226,8 +220,7 @@ pub +get-local+top-up-spec : {M : Type 1} → statement M
 +get-local+top-up-spec = close μ-get-local μ-top-up (λ t. get-local-lts.spec (get-local-calls t)
     (get-local-at t)
     get-local.Post
-    (get-local-frames-requires t)
-    (get-local-cast-take t)
+    (get-local-size-requires t)
     (get-local-take-requires t)
     (get-local-enum-known-row t)
     (get-local-at-row-requires t)
@@ -250,8 +243,7 @@ pub +get-local+top-up-spec : {M : Type 1} → statement M
     top-up.Post
     (top-up-missed-at-requires t)
     (top-up-returns t)
-    (top-up-frames-requires t)
-    (top-up-cast-n t)
+    (top-up-size-requires t)
     (top-up-topped-requires t)
     (top-up-sub-k t)
     (top-up-get-local-requires t)

@@ -1,0 +1,2 @@
+-- the near walk as a route of its own
+pub mod Near

@@ -1,2 +1,0 @@
--- the tree of a tree's first row
-pub mod Row
