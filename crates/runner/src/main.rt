@@ -1,6 +1,4 @@
 // The line runner: reads lines from standard input, makes the calls that they name on one store, and writes the answers to standard output.
-mod calls;
-
 use commands::Command;
 use inputs::Run;
 use stores::Setup;
