@@ -29,8 +29,8 @@ use Rattle.tells.specs.Stats.{statsOf}
 use Rattle.complete.specs.Complete.{refusalOf, number-back}
 use Rattle.sequence.specs.Demand.{Promised, Chain}
 use Rattle.sequence.specs.Sequence.{sequence, never-stuck}
-use Rattle.llfree_c.specs.declared.Figures.{Figures}
-use Rattle.llfree_c.specs.Figures.{figuresOf}
+use Rattle.c_forms.specs.declared.Figures.{Figures}
+use Rattle.c_forms.specs.Figures.{figuresOf}
 use Rattle.chains.specs.Chains.{Call, gets, puts, drains, reports, starts, Answered, Calls, outcomeFrom, grantedFrom, emptyRows, totalsFrom, rowsFrom, stepOf, steps, ArchiveSequence}
 
 -- ---- what a call tells: a number up to 11, and of a get that is refused no frame and no class

@@ -21,7 +21,7 @@ use Rattle.complete.specs.Complete.{refusalOf}
 use Rattle.sequence.specs.Demand.{Step, Chain, NoRestart, NoneStuck, Demand3}
 use Rattle.sequence.specs.Demand as Demand
 use Rattle.numbers.specs.declared.Answer.{Answer}
-use Rattle.llfree_c.specs.declared.Figures.{Figures}
+use Rattle.c_forms.specs.declared.Figures.{Figures}
 use Rattle.llfree_c.specs.Promises.{StartNumber, GetAnswer, PutNumber, DrainNumber, FiguresAnswer}
 
 -- ---- a chain of the archive's calls, each on the words as the call before left them

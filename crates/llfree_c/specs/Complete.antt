@@ -10,7 +10,7 @@ use Rattle.ways.specs.Calls.{Told, telling, fresh}
 use Rattle.ways.specs.Promises.{Words}
 use Rattle.complete.specs.Complete.{same-words}
 use Rattle.numbers.specs.declared.Answer.{Answer}
-use Rattle.llfree_c.specs.declared.Figures.{Figures}
+use Rattle.c_forms.specs.declared.Figures.{Figures}
 use Rattle.llfree_c.specs.Promises.{StartNumber, GetAnswer, PutNumber, DrainNumber, FiguresAnswer}
 
 -- a number and the words that it is told with

@@ -13,8 +13,8 @@ use Rattle.ways.specs.Calls.{telling, fresh, start, get, put, drain}
 use Rattle.ways.specs.Promises.{Words}
 use Rattle.tells.specs.Stats.{statsOf}
 use Rattle.numbers.specs.declared.Answer.{Answer}
-use Rattle.llfree_c.specs.declared.Figures.{Figures}
-use Rattle.llfree_c.specs.Figures.{figuresOf}
+use Rattle.c_forms.specs.declared.Figures.{Figures}
+use Rattle.c_forms.specs.Figures.{figuresOf}
 
 -- header h, table `pairs`, the words before; the number r, the words after
 abbrev pub StartNumber : Header → List ℕ → Bool → Words → ℕ → Words → Type 0

@@ -84,6 +84,14 @@ pub fn has_block(n: usize, order: usize) -> bool
     (n >> order) % 2 == 1
 }
 
+// So many frames with a block more.
+pub fn with_block(frames: usize, order: usize) -> usize
+    requires { ⌜ (frames ≤ 2 ^ 32) × (order < 12) ⌝ }
+    ensures { λ r. ⌜ r ≡ frames + 2 ^ order ⌝ }
+{
+    frames + sizes::size(order)
+}
+
 // The class: 1 for what lives long, 0 for the overlays.
 fn class(p: Pattern) -> usize
     ensures { λ r. ⌜ r < 2 ⌝ }

@@ -47,7 +47,7 @@ fn take(
             };
         };
         first[order] = frame;
-        frames += sizes::size(order);
+        frames = patterns::with_block(frames, order);
     }
     Held {
         whole: true,

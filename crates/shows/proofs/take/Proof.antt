@@ -76,16 +76,12 @@ mul-first c = search needs
 array-write-first : tie.Need-array-write-first Inv-loop μ-loop
 array-write-first c = search needs
 
-size-requires : tie.Need-size-requires Inv-loop μ-loop
-size-requires c κs = search needs
-
-add-frames : tie.Need-add-frames Inv-loop μ-loop
-add-frames c =
-    let i = c .before .before .before .before .before .before .before .before .before .before .before .before .before .before .before .before .before .before .before .loop .inv in
-    let few : framesOf (c .before .before .before .before .before .before .before .before .before .before .before .before .before .before .before .before .before .before .before .before .before .before .before .before .args .p) < 4096 = frames-few (c .before .before .before .before .before .before .before .before .before .before .before .before .before .before .before .before .before .before .before .before .before .before .before .before .args .p) in
-    let d = above-digit (c .before .before .before .before .before .before .before .before .before .before .before .before .before .before .before .before .before .before .before .before .frames .result) (c .before .before .before .before .before .before .before .before .before .before .before .before .before .before .before .before .before .before .before .loop .order) (c .before .before .before .before .before .before .before .before .before .before .before .before .before .before .before .before .before .before .loop-test .taken) (sym (c .before .before .before .before .before .before .before .before .before .before .before .before .before .before .before .before .before .has-block .ensures) ∙ not-false _ (c .before .before .before .before .before .before .before .before .before .before .before .before .before .before .before .before .if1 .left)) in
-    let l = above-le (c .before .before .before .before .before .before .before .before .before .before .before .before .before .before .before .before .before .before .before .before .frames .result) (c .before .before .before .before .before .before .before .before .before .before .before .before .before .before .before .before .before .before .before .loop .order - 1) in
-    omega (arith, c .size .ensures .0, i .1 .0, i .1 .1 .0)
+with-block-requires : tie.Need-with-block-requires Inv-loop μ-loop
+with-block-requires c κs =
+    let i = c .before .before .before .before .before .before .before .before .before .before .before .before .before .before .before .before .before .before .loop .inv in
+    let few : framesOf (c .before .before .before .before .before .before .before .before .before .before .before .before .before .before .before .before .before .before .before .before .before .before .before .args .p) < 4096 = frames-few (c .before .before .before .before .before .before .before .before .before .before .before .before .before .before .before .before .before .before .before .before .before .before .before .args .p) in
+    let l = above-le (c .before .before .before .before .before .before .before .before .before .before .before .before .before .before .before .before .before .before .before .frames .result) (c .before .before .before .before .before .before .before .before .before .before .before .before .before .before .before .before .before .before .loop .order) in
+    (omega (arith, i .1 .0, i .1 .1 .0), search needs)
 
 loop-less-2 : tie.Need-loop-less-2 Inv-loop μ-loop
 loop-less-2 c = search needs
@@ -95,7 +91,7 @@ loop-again-2 c =
     let i = c .before .before .before .before .before .before .before .before .before .before .before .before .before .before .before .before .before .before .before .loop .inv in
     let d = above-digit (c .before .before .before .before .before .before .before .before .before .before .before .before .before .before .before .before .before .before .before .before .frames .result) (c .before .before .before .before .before .before .before .before .before .before .before .before .before .before .before .before .before .before .before .loop .order) (c .before .before .before .before .before .before .before .before .before .before .before .before .before .before .before .before .before .before .loop-test .taken) (sym (c .before .before .before .before .before .before .before .before .before .before .before .before .before .before .before .before .before .has-block .ensures) ∙ not-false _ (c .before .before .before .before .before .before .before .before .before .before .before .before .before .before .before .before .if1 .left)) in
     let k = c .before .before .before .before .before .before .before .before .before .before .before .get .kept in
-    (search needs, (rw (← d, ← i .1 .0, c .size .ensures .0), (i .1 .1 .0, (k .1 .1 .0 ∙ i .1 .1 .1 .0, (k .1 .1 .1 .0 ∙ i .1 .1 .1 .1 .0, k .1 .1 .1 .1 .0 ∙ i .1 .1 .1 .1 .1)))))
+    (search needs, (rw (← d, ← i .1 .0, c .with-block .ensures), (i .1 .1 .0, (k .1 .1 .0 ∙ i .1 .1 .1 .0, (k .1 .1 .1 .0 ∙ i .1 .1 .1 .1 .0, k .1 .1 .1 .1 .0 ∙ i .1 .1 .1 .1 .1)))))
 
 same-length-4 : tie.Need-same-length-4 Inv-loop μ-loop
 same-length-4 c = c .before .loop .inv .1 .1 .1 .0
@@ -136,8 +132,7 @@ take-spec =
     returns
     mul-first
     array-write-first
-    size-requires
-    add-frames
+    with-block-requires
     loop-less-2
     loop-again-2
     same-length-4

@@ -1,7 +1,7 @@
--- `llfree_c::given_of` meets its contract. Assumes nothing.
-use Rattle.llfree_c.specs.Args.{givenOf}
-use Rattle.llfree_c.proofs.given_of.Statement.{statement}
-use Rattle.llfree_c.proofs.given_of.Tie as tie
+-- `c_forms::given_of` meets its contract. Assumes nothing.
+use Rattle.c_forms.specs.Args.{givenOf}
+use Rattle.c_forms.proofs.given_of.Statement.{statement}
+use Rattle.c_forms.proofs.given_of.Tie as tie
 
 returns : tie.Need-returns
 unfolding givenOf

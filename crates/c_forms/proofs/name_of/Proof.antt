@@ -1,7 +1,7 @@
--- `llfree_c::name_of` meets its contract. Assumes nothing.
-use Rattle.llfree_c.specs.Args.{nameOf}
-use Rattle.llfree_c.proofs.name_of.Statement.{statement}
-use Rattle.llfree_c.proofs.name_of.Tie as tie
+-- `c_forms::name_of` meets its contract. Assumes nothing.
+use Rattle.c_forms.specs.Args.{nameOf}
+use Rattle.c_forms.proofs.name_of.Statement.{statement}
+use Rattle.c_forms.proofs.name_of.Tie as tie
 
 returns : tie.Need-returns
 unfolding nameOf

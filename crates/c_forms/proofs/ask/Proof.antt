@@ -1,7 +1,7 @@
--- `llfree_c::ask` meets its contract. Assumes nothing.
+-- `c_forms::ask` meets its contract. Assumes nothing.
 use borrow.Author.Needs.{needs}
-use Rattle.llfree_c.proofs.ask.Statement.{statement}
-use Rattle.llfree_c.proofs.ask.Tie as tie
+use Rattle.c_forms.proofs.ask.Statement.{statement}
+use Rattle.c_forms.proofs.ask.Tie as tie
 
 given-of-requires : tie.Need-given-of-requires
 given-of-requires c κs = search needs
