@@ -4,41 +4,11 @@ use rules::Name;
 use rules::Request;
 use ways::Routed;
 ghost use mathlib.Core.Path.{_≡_};
-ghost use Prim.Native.Nat.{_+_, _/_, _^_, _<_, _≤_};
+ghost use Prim.Native.Nat.{_+_, _^_, _<_, _≤_};
 ghost use Rattle.rules.specs.Words.{config};
-ghost use Rattle.rules.specs.declared.Name.the-variants.{Frame};
-ghost use Rattle.ways.specs.State.{st, ended, orElse};
-ghost use Rattle.ways.specs.Walk.{stealGlobal};
-ghost use Rattle.ways.specs.Get.{lastRoutes, getAt};
+ghost use Rattle.ways.specs.State.{st, ended};
+ghost use Rattle.ways.specs.Get.{getAt};
 ghost use Rattle.ways.specs.Fits.{Fits};
-
-// Where the own local came back empty: steal globally from the named frame's tree; steal from locals; demote.
-fn after_own(
-    h: Header,
-    table: &[u32; 64],
-    trees: &mut [u32],
-    locals: &mut [u64],
-    bits: &mut [u64],
-    q: Request,
-    f: usize,
-    looks: usize,
-    tries: usize,
-) -> Routed
-    requires { ⌜ Fits h q × ((looks < 2 ^ 30) × (tries < 2 ^ 30)) ⌝ }
-    ensures { λ r. ⌜ (ended r (now (trees .exit)) (now (locals .exit)) (now (bits .exit))
-        ≡ orElse (stealGlobal (config h (now (table .entry))) q (Frame f) (f / 2048) (st (now (trees .entry)) (now (locals .entry)) (now (bits .entry)) looks tries))
-        (lastRoutes (config h (now (table .entry))) q (Frame f)))
-        × ((r .looks ≤ looks) × (r .tries ≤ tries + 3)) ⌝ }
-{
-    let name = Name::Frame(f);
-    let t = f / 2048;
-    let r = steal::steal_global(h, table, trees, locals, bits, q, name, t, looks, tries);
-    let got = r.got;
-    if ends::ends(got) {
-        return r;
-    }
-    others::last_routes(h, table, trees, locals, bits, q, name, r.looks, r.tries)
-}
 
 // Named frame: own local if given; steal globally from its tree; steal from locals; demote.
 pub fn get_at(
@@ -59,10 +29,16 @@ pub fn get_at(
 {
     let local = q.local;
     let name = Name::Frame(f);
-    let r = take::own_local(h, table, trees, locals, bits, q, name, local, looks, tries);
-    let got = r.got;
+    let a = take::own_local(h, table, trees, locals, bits, q, name, local, looks, tries);
+    let got = a.got;
     if ends::ends(got) {
+        return a;
+    }
+    let t = f / 2048;
+    let r = steal::steal_global(h, table, trees, locals, bits, q, name, t, a.looks, a.tries);
+    let next = r.got;
+    if ends::ends(next) {
         return r;
     }
-    after_own(h, table, trees, locals, bits, q, f, r.looks, r.tries)
+    others::last_routes(h, table, trees, locals, bits, q, name, r.looks, r.tries)
 }

@@ -6,11 +6,11 @@ use rules::Request;
 use ways::Got;
 use ways::Routed;
 ghost use mathlib.Core.Path.{_≡_};
-ghost use Prim.Native.Nat.{_+_, _*_, _/_, _^_, _<_, _≤_};
+ghost use Prim.Native.Nat.{_*_, _/_, _^_, _<_, _≤_};
 ghost use Rattle.rules.specs.Words.{config};
 ghost use Rattle.rules.specs.declared.Given.the-variants as Given;
 ghost use Rattle.ways.specs.State.{st, ended, indexOf};
-ghost use Rattle.ways.specs.Get.{startTree, getReserving, searchTrees, getAny, routes};
+ghost use Rattle.ways.specs.Get.{startTree, searchTrees, routes};
 ghost use Rattle.ways.specs.Fits.{Fits};
 ghost use Rattle.routes.specs.Start.{startAfter};
 ghost use Rattle.routes.specs.Turn.{reserving};
@@ -47,34 +47,6 @@ fn start_after(got: Got, start: usize) -> usize
     }
 }
 
-// Own local, then reserving search; a present own reservation that failed gives its tree as the start.
-fn get_reserving(
-    h: Header,
-    table: &[u32; 64],
-    trees: &mut [u32],
-    locals: &mut [u64],
-    bits: &mut [u64],
-    q: Request,
-    j: usize,
-    start: usize,
-    looks: usize,
-    tries: usize,
-) -> Routed
-    requires { ⌜ Fits h q × ((start < 2 ^ 44) × ((looks < 2 ^ 27) × (tries < 2 ^ 27))) ⌝ }
-    ensures { λ r. ⌜ (ended r (now (trees .exit)) (now (locals .exit)) (now (bits .exit))
-        ≡ getReserving (config h (now (table .entry))) q j start (st (now (trees .entry)) (now (locals .entry)) (now (bits .entry)) looks tries))
-        × ((r .looks ≤ looks + 4096) × (r .tries ≤ tries + 8193)) ⌝ }
-{
-    let name = Name::Any;
-    let r = take::get_local(h, table, trees, locals, bits, q, name, j, 1, looks, tries);
-    let got = r.got;
-    if ends::ends(got) {
-        return r;
-    }
-    let from = start_after(got, start);
-    search::search_and_reserve(h, table, trees, locals, bits, q, j, from, r.looks, r.tries)
-}
-
 // Whether the own local is asked and the search reserves: a local is given, and its class has fewer locals than there are trees.
 fn reserves(h: Header, table: &[u32; 64], q: Request, local: Given) -> bool
     requires { ⌜ Fits h q ⌝ }
@@ -86,7 +58,7 @@ fn reserves(h: Header, table: &[u32; 64], q: Request, local: Given) -> bool
     }
 }
 
-// Own local, then reserving search; or the stealing search.
+// Own local, then reserving search, where a present own reservation that failed gives its tree as the start; or the stealing search. No counts yet.
 fn search_trees(
     h: Header,
     table: &[u32; 64],
@@ -95,50 +67,29 @@ fn search_trees(
     bits: &mut [u64],
     q: Request,
     local: Given,
-    looks: usize,
-    tries: usize,
 ) -> Routed
-    requires { ⌜ Fits h q × ((indexOf local < 2 ^ 32) × ((looks < 2 ^ 27) × (tries < 2 ^ 27))) ⌝ }
+    requires { ⌜ Fits h q × (indexOf local < 2 ^ 32) ⌝ }
     ensures { λ r. ⌜ (ended r (now (trees .exit)) (now (locals .exit)) (now (bits .exit))
-        ≡ searchTrees (config h (now (table .entry))) q local (st (now (trees .entry)) (now (locals .entry)) (now (bits .entry)) looks tries))
-        × ((r .looks ≤ looks + 4096) × (r .tries ≤ tries + 8193)) ⌝ }
+        ≡ searchTrees (config h (now (table .entry))) q local (st (now (trees .entry)) (now (locals .entry)) (now (bits .entry)) 0 0))
+        × ((r .looks ≤ 4096) × (r .tries ≤ 8193)) ⌝ }
 {
     let i = steps::index_of(local);
     let start = start_tree(h, table, q, i);
-    if reserves(h, table, q, local) {
-        let j = words::slot(h, q.class, i);
-        return get_reserving(h, table, trees, locals, bits, q, j, start, looks, tries);
+    if !reserves(h, table, q, local) {
+        return search::search_and_steal(h, table, trees, locals, bits, q, start, 0, 0);
     }
-    search::search_and_steal(h, table, trees, locals, bits, q, start, looks, tries)
-}
-
-// No name: the search, then steal from locals, then demote.
-fn get_any(
-    h: Header,
-    table: &[u32; 64],
-    trees: &mut [u32],
-    locals: &mut [u64],
-    bits: &mut [u64],
-    q: Request,
-    looks: usize,
-    tries: usize,
-) -> Routed
-    requires { ⌜ Fits h q × ((looks < 2 ^ 27) × (tries < 2 ^ 27)) ⌝ }
-    ensures { λ r. ⌜ (ended r (now (trees .exit)) (now (locals .exit)) (now (bits .exit))
-        ≡ getAny (config h (now (table .entry))) q (st (now (trees .entry)) (now (locals .entry)) (now (bits .entry)) looks tries))
-        × ((r .looks ≤ looks + 4096) × (r .tries ≤ tries + 8195)) ⌝ }
-{
-    let local = q.local;
+    let j = words::slot(h, q.class, i);
     let name = Name::Any;
-    let r = search_trees(h, table, trees, locals, bits, q, local, looks, tries);
+    let r = take::get_local(h, table, trees, locals, bits, q, name, j, 1, 0, 0);
     let got = r.got;
     if ends::ends(got) {
         return r;
     }
-    others::last_routes(h, table, trees, locals, bits, q, name, r.looks, r.tries)
+    let from = start_after(got, start);
+    search::search_and_reserve(h, table, trees, locals, bits, q, j, from, r.looks, r.tries)
 }
 
-// The routes of get, with no counts yet.
+// The routes of get: those of a named frame; or the search, then steal from locals, then demote.
 pub fn routes(
     h: Header,
     table: &[u32; 64],
@@ -152,8 +103,14 @@ pub fn routes(
     ensures { λ r. ⌜ ended r (now (trees .exit)) (now (locals .exit)) (now (bits .exit))
         ≡ routes (config h (now (table .entry))) q name (st (now (trees .entry)) (now (locals .entry)) (now (bits .entry)) 0 0) ⌝ }
 {
-    match name {
-        Name::Any => get_any(h, table, trees, locals, bits, q, 0, 0),
-        Name::Frame(f) => named::get_at(h, table, trees, locals, bits, q, f, 0, 0),
+    if let Name::Frame(f) = name {
+        return named::get_at(h, table, trees, locals, bits, q, f, 0, 0);
     }
+    let local = q.local;
+    let r = search_trees(h, table, trees, locals, bits, q, local);
+    let got = r.got;
+    if ends::ends(got) {
+        return r;
+    }
+    others::last_routes(h, table, trees, locals, bits, q, name, r.looks, r.tries)
 }

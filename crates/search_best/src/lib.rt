@@ -42,8 +42,7 @@ pub fn search_best(
         }
         asked = a.tries;
         let list = s.best;
-        let next = walk::walk_on(h, table, trees, q, w, p, s.at + 1, list, a.looks);
-        s = next;
+        s = walk::walk_on(h, table, trees, q, w, p, s.at + 1, list, a.looks);
     }
     let m = p.m;
     let list = s.best;

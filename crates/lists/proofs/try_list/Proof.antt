@@ -37,9 +37,9 @@ abbrev μ-loop : tie.MeasureT-loop
 loop-holds : tie.Need-loop-holds Inv-loop μ-loop
 loop-holds c =
     record {
-      most = search needs;
-      seen-most = search needs;
-      asked-most = search needs;
+      most = omega arith;
+      seen-most = omega arith;
+      asked-most = omega arith;
       places = search needs;
       len-t = refl;
       len-l = refl;
@@ -70,10 +70,13 @@ unfolding tryList
 returns c =
     let l = c .before .before .before .loop in
     let t = c .before .before .loop-test .taken in
-    (rw (← l .inv .same-list, from-none _ _ _ t (l .inv .places) (c .before .if1 .taken)) (c .missed .ensures .0 _ _ _), search needs)
+    (rw (← l .inv .same-list, from-none _ _ _ t (l .inv .places) (c .before .if1 .taken)) (c .missed .ensures .0 _ _ _), omega (arith, c .missed .ensures .1, l .inv .most, l .inv .seen-most, l .inv .asked-most))
 
 access-requires : tie.Need-access-requires Inv-loop μ-loop
-access-requires c κs = search needs
+access-requires c κs =
+    let l = c .before .before .before .before .before .loop .inv in
+    let p = c .before .before .before .before .before .before .before .before .before .pre in
+    (p .0, (search needs, (omega (arith, l .seen-most, p .1), omega (arith, l .asked-most, l .most, p .1))))
 
 ends-requires : tie.Need-ends-requires Inv-loop μ-loop
 ends-requires c κs = search needs
@@ -99,7 +102,7 @@ returns-2 c =
         ← v .ensures .0,
         else-ends _ _ _ (sym (c .before .ends .ensures) ∙ c .if2 .taken),
       ),
-      search needs,
+      omega (arith, v .ensures .1, t, l .inv .seen-most, l .inv .asked-most),
     )
 
 add-k : tie.Need-add-k Inv-loop μ-loop

@@ -8,7 +8,7 @@ use Rattle.reserves.proofs.reserved.Statement.{statement}
 use Rattle.reserves.proofs.reserved.Tie as tie
 
 mul-lower-get : tie.Need-mul-lower-get
-mul-lower-get c = search needs
+mul-lower-get c = omega (arith, c .before .before .before .before .pre .1 .0)
 
 lower-get-requires : tie.Need-lower-get-requires
 lower-get-requires c κs = search needs
@@ -17,22 +17,22 @@ enum-known-f : tie.Need-enum-known-f
 enum-known-f c = search needs
 
 size-requires : tie.Need-size-requires
-size-requires c κs = search needs
+size-requires c κs = omega (arith, c .before .before .before .before .before .before .before .before .before .before .pre .0 .order)
 
 less-requires : tie.Need-less-requires
 less-requires c κs = search needs
 
 reservation-requires : tie.Need-reservation-requires
-reservation-requires c κs = search needs
+reservation-requires c κs = c .before .before .before .before .before .before .before .before .before .before .before .before .before .pre .1 .0
 
 swap-requires : tie.Need-swap-requires
 swap-requires c κs = search needs
 
 unreserve-local-requires : tie.Need-unreserve-local-requires
-unreserve-local-requires c κs = search needs
+unreserve-local-requires c κs = (c .before .before .before .before .before .before .before .before .before .before .before .before .before .before .before .before .before .before .pre .0 .default, (c .before .before .before .before .before .before .before .before .before .before .before .before .before .before .before .before .before .before .pre .0 .class, omega (arith, c .before .before .before .swap .ensures .1)))
 
 add-done : tie.Need-add-done
-add-done c = omega (arith, c .before .before .before .before .before .before .before .before .before .before .before .before .before .before .before .before .before .before .before .before .before .pre)
+add-done c = omega (arith, c .before .before .before .before .before .before .before .before .before .before .before .before .before .before .before .before .before .before .before .before .before .pre .1 .1)
 
 done-requires : tie.Need-done-requires
 done-requires c κs = search needs
@@ -44,10 +44,10 @@ enum-told : tie.Need-enum-told
 enum-told c = search needs
 
 unreserve-requires : tie.Need-unreserve-requires
-unreserve-requires c κs = search needs
+unreserve-requires c κs = (c .before .before .before .before .before .before .before .before .before .before .pre .0 .default, (c .before .before .before .before .before .before .before .before .before .before .pre .0 .class, search needs))
 
 add-missed : tie.Need-add-missed
-add-missed c = search needs
+add-missed c = omega (arith, c .before .before .before .before .before .before .before .before .before .before .before .before .before .pre .1 .1)
 
 missed-requires : tie.Need-missed-requires
 missed-requires c κs = search needs
@@ -81,7 +81,7 @@ returns c = (
     ← c .before .done .ensures .1 .0,
     ← c .before .done .ensures .1 .1,
   ) (c .or-stuck .ensures .0 _ _ _),
-  (search needs, search needs),
+  omega (arith, c .before .done .ensures .1, c .or-stuck .ensures .1),
 )
 
 same-length-4 : tie.Need-same-length-4
@@ -103,7 +103,7 @@ returns-2 c = (
     ← c .before .missed .ensures .1 .0,
     ← c .before .missed .ensures .1 .1,
   ) (c .or-stuck2 .ensures .0 _ _ _),
-  (search needs, search needs),
+  omega (arith, c .before .missed .ensures .1, c .or-stuck2 .ensures .1),
 )
 
 pub reserved-spec : {M : Type 1} → statement M
