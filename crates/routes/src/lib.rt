@@ -20,6 +20,9 @@ fn portion(n: usize, m: usize, i: usize) -> usize
     requires { ⌜ (0 < m) × ((n ≤ 1024) × (i < 2 ^ 32)) ⌝ }
     ensures { λ r. ⌜ (r ≡ n / m * i) × (r < 2 ^ 44) ⌝ }
 {
+    if i == 0 {
+        return 0;
+    }
     n / m * i
 }
 
@@ -48,7 +51,7 @@ fn start_after(got: Got, start: usize) -> usize
 }
 
 // Whether the own local is asked and the search reserves: a local is given, and its class has fewer locals than there are trees.
-fn reserves(h: Header, table: &[u32; 64], q: Request, local: Given) -> bool
+fn is_reserving(h: Header, table: &[u32; 64], q: Request, local: Given) -> bool
     requires { ⌜ Fits h q ⌝ }
     ensures { λ r. ⌜ r ≡ reserving (config h (now (table .entry))) q local ⌝ }
 {
@@ -75,7 +78,7 @@ fn search_trees(
 {
     let i = steps::index_of(local);
     let start = start_tree(h, table, q, i);
-    if !reserves(h, table, q, local) {
+    if !is_reserving(h, table, q, local) {
         return search::search_and_steal(h, table, trees, locals, bits, q, start, 0, 0);
     }
     let j = words::slot(h, q.class, i);

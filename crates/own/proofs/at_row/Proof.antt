@@ -1,6 +1,7 @@
 -- `own::at_row` meets its contract. Assumes nothing.
 use native.Mathlib.Omega.{arith}
-use Rattle.ways.specs.State.{onFound, putEntry, setRow, withLocals, withTrees, withTry}
+use mathlib.Core.Path.{_≡_}
+use Rattle.ways.specs.State.{size, onFound, putEntry, setRow, withLocals, withTrees, withTry}
 use Rattle.own.specs.Own.{atRow}
 use borrow.Author.Needs.{needs}
 use Rattle.own.proofs.at_row.Statement.{statement}
@@ -50,7 +51,7 @@ returns c = (
     c .before .before .before .before .before .before .f .given .1,
     ← c .before .before .before .set-start .ensures,
   ) (c .done .ensures .0 _ _ _),
-  (search needs, search needs),
+  omega (arith, c .done .ensures .1),
 )
 
 same-length-3 : tie.Need-same-length-3
@@ -61,15 +62,11 @@ same-length-4 c = omega (arith, c .before .before .before .put .kept, c .before 
 
 returns-2 : tie.Need-returns-2
 unfolding atRow onFound putEntry setRow withTrees withLocals withTry
-returns-2 c = (
-  rw (
-    ← c .before .before .before .before .before .before .before .before .before .before .lower-get .ensures,
-    c .before .before .before .before .before .before .enum-told .given .1,
-    ← c .before .before .before .before .size .ensures .0,
-    ← c .before .before .before .put .ensures,
-  ) (c .missed-at .ensures .0 _ _ _),
-  (search needs, search needs),
-)
+returns-2 c =
+    let n : c .before .before .before .before .size .result ≡ size (c .before .before .before .before .before .before .before .before .before .before .before .before .before .before .before .args .q) = c .before .before .before .before .size .ensures .0 in (
+      rw (← c .before .before .before .before .before .before .before .before .before .before .lower-get .ensures, c .before .before .before .before .before .before .enum-told .given .1, ← n, ← c .before .before .before .put .ensures) (c .missed-at .ensures .0 _ _ _),
+      omega (arith, c .missed-at .ensures .1),
+    )
 
 pub at-row-spec : {M : Type 1} → statement M
 at-row-spec =

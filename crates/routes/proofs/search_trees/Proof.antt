@@ -16,8 +16,8 @@ index-of-requires c κs = search needs
 start-tree-requires : tie.Need-start-tree-requires
 start-tree-requires c κs = (c .before .before .before .before .pre .0, rw (c .index-of .ensures) (c .before .before .before .before .pre .1))
 
-reserves-requires : tie.Need-reserves-requires
-reserves-requires c κs = c .before .before .before .before .before .pre .0
+is-reserving-requires : tie.Need-is-reserving-requires
+is-reserving-requires c κs = c .before .before .before .before .before .pre .0
 
 search-and-steal-requires : tie.Need-search-and-steal-requires
 search-and-steal-requires c κs = (c .before .before .before .before .before .before .before .before .before .before .pre .0, (c .before .before .before .before .before .start-tree .ensures .1, omega arith))
@@ -36,8 +36,8 @@ unfolding ifte
 returns c = (
   rw (
     trees-turn _ _ _ _,
-    ← c .before .before .before .before .before .before .before .before .before .before .before .reserves .ensures,
-    not-true (c .before .before .before .before .before .before .before .before .before .before .before .reserves .result) (c .before .before .before .before .before .before .before .before .before .before .if1 .taken),
+    ← c .before .before .before .before .before .before .before .before .before .before .before .is-reserving .ensures,
+    not-true (c .before .before .before .before .before .before .before .before .before .before .before .is-reserving .result) (c .before .before .before .before .before .before .before .before .before .before .if1 .taken),
     ← c .before .before .before .before .before .before .before .before .before .before .before .before .before .index-of .ensures,
     ← c .before .before .before .before .before .before .before .before .before .before .before .before .start-tree .ensures .0,
   ) (c .before .before .before .before .before .before .search-and-steal .ensures .0),
@@ -67,8 +67,8 @@ unfolding ifte getReserving
 returns-2 c = (
   rw (
     trees-turn _ _ _ _,
-    ← c .before .before .before .before .before .before .before .before .before .before .before .before .before .before .reserves .ensures,
-    not-false (c .before .before .before .before .before .before .before .before .before .before .before .before .before .before .reserves .result) (c .before .before .before .before .before .before .before .before .before .before .before .before .before .if1 .left),
+    ← c .before .before .before .before .before .before .before .before .before .before .before .before .before .before .is-reserving .ensures,
+    not-false (c .before .before .before .before .before .before .before .before .before .before .before .before .before .before .is-reserving .result) (c .before .before .before .before .before .before .before .before .before .before .before .before .before .if1 .left),
     ← c .before .before .before .before .before .before .before .before .before .before .before .before .before .before .before .before .index-of .ensures,
     ← c .before .before .before .before .before .before .before .before .before .before .before .before .slot .ensures,
     ← c .before .before .before .before .before .before .before .before .get-local .ensures .0,
@@ -99,8 +99,8 @@ unfolding ifte getReserving
 returns-3 c = (
   rw (
     trees-turn _ _ _ _,
-    ← c .before .before .before .before .before .before .before .before .before .before .before .before .before .before .before .before .before .before .before .before .before .before .before .before .before .reserves .ensures,
-    not-false (c .before .before .before .before .before .before .before .before .before .before .before .before .before .before .before .before .before .before .before .before .before .before .before .before .before .reserves .result) (c .before .before .before .before .before .before .before .before .before .before .before .before .before .before .before .before .before .before .before .before .before .before .before .before .if1 .left),
+    ← c .before .before .before .before .before .before .before .before .before .before .before .before .before .before .before .before .before .before .before .before .before .before .before .before .before .is-reserving .ensures,
+    not-false (c .before .before .before .before .before .before .before .before .before .before .before .before .before .before .before .before .before .before .before .before .before .before .before .before .before .is-reserving .result) (c .before .before .before .before .before .before .before .before .before .before .before .before .before .before .before .before .before .before .before .before .before .before .before .before .if1 .left),
     ← c .before .before .before .before .before .before .before .before .before .before .before .before .before .before .before .before .before .before .before .before .before .before .before .before .before .before .before .index-of .ensures,
     ← c .before .before .before .before .before .before .before .before .before .before .before .before .before .before .before .before .before .before .before .before .before .before .before .before .before .before .start-tree .ensures .0,
     ← c .before .before .before .before .before .before .before .before .before .before .before .before .before .before .before .before .before .before .before .before .before .before .before .slot .ensures,
@@ -117,7 +117,7 @@ search-trees-spec =
     (tie.spec
     index-of-requires
     start-tree-requires
-    reserves-requires
+    is-reserving-requires
     search-and-steal-requires
     same-length
     same-length-2

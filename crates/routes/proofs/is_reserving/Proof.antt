@@ -1,8 +1,8 @@
--- `routes::reserves` meets its contract. Assumes nothing.
+-- `routes::is_reserving` meets its contract. Assumes nothing.
 use Rattle.routes.specs.Turn.{reserving}
 use borrow.Author.Needs.{needs}
-use Rattle.routes.proofs.reserves.Statement.{statement}
-use Rattle.routes.proofs.reserves.Tie as tie
+use Rattle.routes.proofs.is_reserving.Statement.{statement}
+use Rattle.routes.proofs.is_reserving.Tie as tie
 
 enum-told : tie.Need-enum-told
 enum-told c = search needs
@@ -24,8 +24,8 @@ returns-2 : tie.Need-returns-2
 unfolding reserving
 returns-2 c = rw (c .enum-told2 .given .1)
 
-pub reserves-spec : {M : Type 1} → statement M
-reserves-spec =
+pub is-reserving-spec : {M : Type 1} → statement M
+is-reserving-spec =
     tie.close
     (tie.spec
     enum-told
