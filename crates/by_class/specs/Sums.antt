@@ -9,7 +9,7 @@ use lib.Dec.{eqb}
 use lib.ListN.{length, getD, set, replicate, length-set, getD-replicate}
 use lib.Seq.{getD-set-same, getD-set-other}
 use borrow.Author.Tests.{eqb-true, eqb-false}
-use Rattle.words.specs.Sums.{sum-more}
+use Rattle.lower_laws.specs.Sum.{sum-more}
 use Rattle.rules.specs.Base.{pick, sum}
 use Rattle.rules.specs.Words.{treeFrames, entryAt, localAt}
 use Rattle.ways.specs.Standing.{treeOn}

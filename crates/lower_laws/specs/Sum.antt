@@ -2,7 +2,8 @@
 use mathlib.Core.Path.{_≡_, refl, ap, ap₂, _∙_}
 use mathlib.Core.Logic.{⊎-elim}
 use Prim.Native.Nat.{ℕ, zero, suc, _+_, _<_, _≤_}
-use native.Mathlib.Nat.{add-zero, add-suc, add-assoc, eq-or-lt-of-le}
+use native.Mathlib.Nat.{zero-add, add-zero, add-suc, add-assoc, eq-or-lt-of-le}
+use native.Mathlib.Numerals.{add-one}
 use native.Mathlib.Omega.{arith}
 use Rattle.rules.specs.Base.{sum}
 
@@ -10,6 +11,11 @@ module _ (f : ℕ → ℕ) where
   pub sum-none : (a : ℕ) → sum f a 0 ≡ 0
   unfolding sum
   sum-none a = refl
+
+  -- over one number more
+  pub sum-more : (k : ℕ) → sum f 0 (k + 1) ≡ sum f 0 k + f k
+  unfolding sum
+  sum-more k = rw (add-one k, zero-add k)
 
   pub sum-one : (a : ℕ) → sum f a 1 ≡ f a
   unfolding sum

@@ -1,13 +1,15 @@
 -- The places of locals, by class, then index: each place belongs to exactly one class and index. Assumes nothing.
-use mathlib.Core.Path.{_≡_, ap}
+use mathlib.Core.Path.{_≡_}
 use mathlib.Core.List.{List}
 use Prim.Native.Nat.{ℕ, zero, suc, _+_, _-_, _<_, _≤_}
-use native.Mathlib.Nat.{zero-add, not-suc-le-zero}
+use native.Mathlib.Nat.{not-suc-le-zero}
+use native.Mathlib.Numerals.{add-one}
 use native.Mathlib.Omega.{arith}
 use native.Mathlib.Decide.{decLt}
 use Rattle.rules.specs.Base.{sum}
 use Rattle.rules.specs.Words.{localsOf, slot, localCount}
 use Rattle.lower_laws.specs.Cases.{neither-below}
+use Rattle.lower_laws.specs.Sum.{sum-more}
 use Rattle.word_laws.specs.Sums.{sum-prefix}
 
 -- the slot j is that of a class and an index
@@ -20,8 +22,7 @@ pub record SlotOf (ps : List ℕ) (j : ℕ) : Type 0 where
 
 -- the sum before the next class
 next : (f : ℕ → ℕ) (k : ℕ) → sum f 0 (suc k) ≡ sum f 0 k + f k
-unfolding sum
-next f k = ap (λ (x : ℕ). sum f 0 k + f x) (zero-add k)
+next f k = rw (← add-one k) (sum-more f k)
 
 module _ (ps : List ℕ) where
   -- a place is one of the lent words

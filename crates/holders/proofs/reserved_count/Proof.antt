@@ -7,7 +7,7 @@ use borrow.Author.Needs.{needs}
 use Rattle.rules.specs.Base.{bitOf}
 use Rattle.rules.specs.Words.{entryAt}
 use Rattle.ways.specs.Standing.{reservedCount}
-use Rattle.words.specs.Sums.{sum-none, sum-more}
+use Rattle.lower_laws.specs.Sum.{sum-none, sum-more}
 use Rattle.holders.proofs.reserved_count.Statement.{statement}
 use Rattle.holders.proofs.reserved_count.Tie as tie
 
@@ -19,7 +19,7 @@ abbrev μ-loop : tie.MeasureT-loop
 
 loop-holds : tie.Need-loop-holds Inv-loop μ-loop
 unfolding reservedCount
-loop-holds c = (search needs, (search needs, rw (sum-none (λ (n : ℕ). bitOf (entryAt (c .before .args .trees .now) n .reserved)))))
+loop-holds c = (search needs, (search needs, rw (sum-none (λ (n : ℕ). bitOf (entryAt (c .before .args .trees .now) n .reserved)) 0)))
 
 load-requires : tie.Need-load-requires Inv-loop μ-loop
 load-requires c κs = search needs

@@ -9,7 +9,7 @@ use Rattle.rules.specs.Base.{allBelow, sum}
 use Rattle.rules.specs.Words.{config, localsOf}
 use Rattle.ways.specs.Standing.{classStands}
 use Rattle.policy_laws.specs.All.{all-none, all-more, all-fails, all-done}
-use Rattle.words.specs.Sums.{sum-none, sum-more}
+use Rattle.lower_laws.specs.Sum.{sum-none, sum-more}
 use Rattle.local_rules.proofs.locals_stand.Statement.{statement}
 use Rattle.local_rules.proofs.locals_stand.Tie as tie
 
@@ -21,7 +21,7 @@ abbrev μ-loop : tie.MeasureT-loop
 μ-loop h table trees locals bits places first₀ class₀ first class = 8 - class
 
 loop-holds : tie.Need-loop-holds Inv-loop μ-loop
-loop-holds c = (search needs, (all-none _, (search needs, rw (sum-none (localsOf (c .before .before .before .before .args .h .places))))))
+loop-holds c = (search needs, (all-none _, (search needs, rw (sum-none (localsOf (c .before .before .before .before .args .h .places)) 0))))
 
 locals-in-requires : tie.Need-locals-in-requires Inv-loop μ-loop
 locals-in-requires c κs = search needs

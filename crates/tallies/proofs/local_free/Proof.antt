@@ -4,7 +4,7 @@ use Prim.Native.Nat.{_-_, _*_, _≤_}
 use native.Mathlib.Omega.{arith}
 use borrow.Author.Needs.{needs}
 use Rattle.rules.specs.Base.{sum}
-use Rattle.words.specs.Sums.{sum-more}
+use Rattle.lower_laws.specs.Sum.{sum-more}
 use Rattle.rules.specs.Words.{slot}
 use Rattle.ways.specs.Statistics.{localFree}
 use Rattle.tallies.specs.Rows.{freeFrom}

@@ -4,7 +4,7 @@ use Prim.Native.Nat.{_-_, _*_, _≤_}
 use native.Mathlib.Omega.{arith}
 use borrow.Author.Needs.{needs}
 use Rattle.rules.specs.Base.{sum}
-use Rattle.words.specs.Sums.{sum-more}
+use Rattle.lower_laws.specs.Sum.{sum-more}
 use Rattle.totals.specs.Wholes.{entriesFree, entriesWhole}
 use Rattle.totals.proofs.entries_whole.Statement.{statement}
 use Rattle.totals.proofs.entries_whole.Tie as tie

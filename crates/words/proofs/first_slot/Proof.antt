@@ -5,7 +5,7 @@ use native.Mathlib.Omega.{arith}
 use borrow.Author.Needs.{needs}
 use Rattle.rules.specs.Base.{sum}
 use Rattle.rules.specs.Words.{localsOf}
-use Rattle.words.specs.Sums.{sum-none, sum-more}
+use Rattle.lower_laws.specs.Sum.{sum-none, sum-more}
 use Rattle.words.proofs.first_slot.Statement.{statement}
 use Rattle.words.proofs.first_slot.Tie as tie
 
@@ -17,7 +17,7 @@ abbrev μ-loop : tie.MeasureT-loop
 μ-loop h class first₀ k₀ first k = class - k
 
 loop-holds : tie.Need-loop-holds Inv-loop μ-loop
-loop-holds c = (search needs, (search needs, rw (sum-none (localsOf (c .args .h .places)))))
+loop-holds c = (search needs, (search needs, rw (sum-none (localsOf (c .args .h .places)) 0)))
 
 locals-of-requires : tie.Need-locals-of-requires Inv-loop μ-loop
 locals-of-requires c κs = search needs
