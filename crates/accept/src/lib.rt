@@ -12,7 +12,7 @@ fn places_fit(h: Header) -> bool
 {
     let mut k: usize = 0;
     while k < 8 {
-        if 33 < words::wide(h.places[k]) {
+        if 33 < headers::wide(h.places[k]) {
             return false;
         }
         k += 1;
@@ -33,7 +33,7 @@ pub fn accepts(h: Header, table: &[u32; 64]) -> bool
     let places = h.places;
     if places_fit(h) {
         if h.default < 8 {
-            if words::configured_in(&places, h.default) {
+            if headers::configured_in(&places, h.default) {
                 return accept_rows::rows_accepted(h, &places, table);
             }
             return false;

@@ -21,8 +21,8 @@ fn pair_covered(h: Header, table: &[u32; 64], o: usize, e: usize, f: usize) -> b
     requires { ⌜ (o < 8) × ((e < 8) × (f < 8)) ⌝ }
     ensures { λ r. ⌜ r ≡ pairCovered (config h (now (table .entry))) o e f ⌝ }
 {
-    if 2 <= words::kind_at(h, table, e, f) {
-        return 2 <= words::kind_at(h, table, o, f);
+    if 2 <= policy::kind_at(h, table, e, f) {
+        return 2 <= policy::kind_at(h, table, o, f);
     }
     true
 }
@@ -47,9 +47,9 @@ pub fn leads_back(h: Header, table: &[u32; 64], o: usize, e: usize) -> bool
     requires { ⌜ (h .default < 8) × ((o < 8) × (e < 8)) ⌝ }
     ensures { λ r. ⌜ r ≡ leadsBack (config h (now (table .entry))) o e ⌝ }
 {
-    if 2 <= words::kind_at(h, table, o, e) {
-        if 0 < words::kind_at(h, table, e, h.default) {
-            return 2 <= words::kind_at(h, table, o, h.default);
+    if 2 <= policy::kind_at(h, table, o, e) {
+        if 0 < policy::kind_at(h, table, e, h.default) {
+            return 2 <= policy::kind_at(h, table, o, h.default);
         }
         return true;
     }
@@ -61,7 +61,7 @@ pub fn demote_covers(h: Header, table: &[u32; 64], o: usize, e: usize) -> bool
     requires { ⌜ (o < 8) × (e < 8) ⌝ }
     ensures { λ r. ⌜ r ≡ demoteCovers (config h (now (table .entry))) o e ⌝ }
 {
-    if words::kind_at(h, table, o, e) == 2 {
+    if policy::kind_at(h, table, o, e) == 2 {
         return covers(h, table, o, e);
     }
     true

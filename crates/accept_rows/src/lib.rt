@@ -11,8 +11,8 @@ fn cell_accepted(h: Header, places: &[u8; 8], table: &[u32; 64], o: usize, e: us
     requires { ⌜ (now places ≡ h .places) × ((h .default < 8) × ((o < 8) × (e < 8))) ⌝ }
     ensures { λ r. ⌜ r ≡ cellAccepted (config h (now (table .entry))) o e ⌝ }
 {
-    if words::configured_in(places, e) {
-        if accept_pairs::formed(words::pair_at(h, table, o, e)) {
+    if headers::configured_in(places, e) {
+        if accept_pairs::formed(policy::pair_at(h, table, o, e)) {
             if accept_pairs::leads_back(h, table, o, e) {
                 return accept_pairs::demote_covers(h, table, o, e);
             }
@@ -20,7 +20,7 @@ fn cell_accepted(h: Header, places: &[u8; 8], table: &[u32; 64], o: usize, e: us
         }
         return false;
     }
-    words::pair_at(h, table, o, e) == 0
+    policy::pair_at(h, table, o, e) == 0
 }
 
 // The eight pairs of a configured class o.
@@ -46,7 +46,7 @@ fn row_empty(h: Header, table: &[u32; 64], o: usize) -> bool
     let mut any: u32 = 0;
     let mut e: usize = 0;
     while e < 8 {
-        any = any | words::pair_at(h, table, o, e);
+        any = any | policy::pair_at(h, table, o, e);
         e += 1;
     }
     any == 0
@@ -57,8 +57,8 @@ fn row_accepted(h: Header, places: &[u8; 8], table: &[u32; 64], o: usize) -> boo
     requires { ⌜ (now places ≡ h .places) × ((h .default < 8) × (o < 8)) ⌝ }
     ensures { λ r. ⌜ r ≡ rowAccepted (config h (now (table .entry))) o ⌝ }
 {
-    if words::configured_in(places, o) {
-        if 2 <= words::kind_at(h, table, o, o) {
+    if headers::configured_in(places, o) {
+        if 2 <= policy::kind_at(h, table, o, o) {
             return cells_accepted(h, places, table, o);
         }
         return false;

@@ -18,7 +18,7 @@ fn check_local(h: Header, table: &[u32; 64], class: usize, local: Given) -> Outc
     match local {
         Given::Nothing => Outcome::Done,
         Given::Local(i) => {
-            if i < words::locals_of(h, class) {
+            if i < headers::locals_of(h, class) {
                 return Outcome::Done;
             }
             Outcome::Refused(Refusal::Local)
@@ -33,7 +33,7 @@ fn check_class(h: Header, table: &[u32; 64], q: Request) -> Outcome
     if 7 < q.class {
         return Outcome::Refused(Refusal::Class);
     }
-    if words::is_configured(h, q.class) {
+    if headers::is_configured(h, q.class) {
         let local = q.local;
         return check_local(h, table, q.class, local);
     }

@@ -35,14 +35,14 @@ fn demote_to(
     let local = q.local;
     match local {
         Given::Local(i) => {
-            let old = local_swaps::swap(locals, words::slot(h, q.class, i), l);
-            if !steps::unreserve_local(h, table, trees, q.class, old) {
+            let old = local_swaps::swap(locals, headers::slot(h, q.class, i), l);
+            if !unreserves::unreserve_local(h, table, trees, q.class, old) {
                 return ends::stuck(looks, tries);
             }
             steps::ask_lower(h, table, trees, bits, q, name, l.row, q.class, looks, tries)
         }
         Given::Nothing => {
-            if !steps::unreserve(h, table, trees, l.row / 32, q.class, l.free) {
+            if !unreserves::unreserve(h, table, trees, l.row / 32, q.class, l.free) {
                 return ends::stuck(looks, tries);
             }
             steps::ask_lower(h, table, trees, bits, q, name, l.row, q.class, looks, tries)

@@ -10,7 +10,7 @@ use Rattle.rules.specs.Locals.{localClear}
 use Rattle.rules.specs.declared.Local.{Local}
 use Rattle.ways.specs.State.{State, onSwap, unreserveLocal}
 use Rattle.ways.specs.Calls.{drainLocals, onDrained, drainClasses}
-use Rattle.steps.specs.Returned.{onReturned, local-returned}
+use Rattle.unreserves.specs.Returned.{onReturned, local-returned}
 
 -- the local at place j, of class k, becomes absent and its reservation is returned; false where that is stuck
 unfoldable pub drainOne : Config → ℕ → ℕ → State → Out Bool State

@@ -24,7 +24,7 @@ fn drain_local(
         ≡ drainOne (config h (now (table .entry))) class j (fresh (now (trees .entry)) (now (locals .entry)) b)) ⌝ }
 {
     let l = local_swaps::clear(locals, j);
-    steps::unreserve_local(h, table, trees, class, l)
+    unreserves::unreserve_local(h, table, trees, class, l)
 }
 
 // The locals of a class, by index.
@@ -39,8 +39,8 @@ fn drain_class(
     ensures { λ r. ⌜ ((b : List ℕ) → out r (fresh (now (trees .exit)) (now (locals .exit)) b)
         ≡ drainLocals (localsOf (h .places) class) (config h (now (table .entry))) class 0 (fresh (now (trees .entry)) (now (locals .entry)) b)) ⌝ }
 {
-    let n = words::locals_of(h, class);
-    let first = words::first_slot(h, class);
+    let n = headers::locals_of(h, class);
+    let first = headers::first_slot(h, class);
     for i in 0..n {
         if !drain_local(h, table, trees, locals, class, first + i) {
             return false;

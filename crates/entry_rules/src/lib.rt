@@ -22,7 +22,7 @@ fn entry_stands(
 {
     let e = trees::load(trees, t);
     if e.free <= 2048 {
-        if words::configured_in(places, e.class) {
+        if headers::configured_in(places, e.class) {
             if e.reserved {
                 return true;
             }

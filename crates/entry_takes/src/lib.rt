@@ -20,7 +20,7 @@ pub fn steal(h: Header, table: &[u32; 64], t: Tree, class: usize, n: usize) -> T
     if t.free < n {
         return Took::No;
     }
-    match words::ask(h, table, class, t.class, n) {
+    match policy::ask(h, table, class, t.class, n) {
         Kind::Invalid => Took::No,
         Kind::Steal => Took::Yes(Tree {
             free: t.free - n,
@@ -51,7 +51,7 @@ pub fn reserve_or_steal(h: Header, table: &[u32; 64], t: Tree, class: usize, n: 
     if t.free < n {
         return Taken::No;
     }
-    match words::ask(h, table, class, t.class, n) {
+    match policy::ask(h, table, class, t.class, n) {
         Kind::Invalid => Taken::No,
         Kind::Steal => Taken::Part(Tree {
             free: t.free - n,

@@ -43,11 +43,11 @@ pub fn first_local(
     requires { ⌜ class < 8 ⌝ }
     ensures { λ r. ⌜ r ≡ payerOf 11 (h .places) (now (locals .entry)) class from name n ⌝ }
 {
-    let len = words::locals_of(h, class);
+    let len = headers::locals_of(h, class);
     if len == 0 {
         return Payer::Nobody;
     }
-    let first = words::first_slot(h, class);
+    let first = headers::first_slot(h, class);
     let end = first + len;
     let mut j = first + from % len;
     for d in 0..len {

@@ -16,9 +16,9 @@ pub fn lengths_exact(
     requires { ⌜ h .frames ≤ 2 ^ 21 ⌝ }
     ensures { λ r. ⌜ r ≡ lengthsExact (config h (now (table .entry))) (now (trees .entry)) (now (locals .entry)) (now (bits .entry)) ⌝ }
 {
-    let n = words::tree_count(h.frames);
+    let n = headers::tree_count(h.frames);
     if trees.len() == n {
-        if locals.len() == words::local_count(h) {
+        if locals.len() == headers::local_count(h) {
             return bits.len() == 32 * n;
         }
         return false;

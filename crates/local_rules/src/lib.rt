@@ -1,38 +1,11 @@
 // The standing rules of the locals, by class, then index.
 use rules::Header;
-use rules::Local;
 ghost use mathlib.Core.Path.{_≡_};
 ghost use Prim.Native.Nat.{_^_, _<_};
 ghost use Rattle.rules.specs.Base.{allBelow, sum};
 ghost use Rattle.rules.specs.Words.{config, localsOf};
-ghost use Rattle.ways.specs.Standing.{holderStands, localStands, classStands};
+ghost use Rattle.ways.specs.Standing.{localStands, classStands};
 ghost use Rattle.lengths.specs.Exact.{Exact};
-
-// Of a present local: its tree exists, the entry is reserved, the pair good, and entry free plus its free the number of clear bits.
-fn holder_stands(
-    h: Header,
-    table: &[u32; 64],
-    trees: &[u32],
-    bits: &[u64],
-    class: usize,
-    l: Local,
-) -> bool
-    requires { ⌜ Exact (config h (now table)) (now trees) (now bits) × ((class < 8) × (l .free < 2 ^ 19)) ⌝ }
-    ensures { λ r. ⌜ r ≡ holderStands (config h (now (table .entry))) (now (trees .entry)) (now (bits .entry)) class l ⌝ }
-{
-    let t = l.row / 32;
-    if t < words::tree_count(h.frames) {
-        let e = trees::load(trees, t);
-        if e.reserved {
-            if 2 <= words::kind_at(h, table, class, e.class) {
-                return e.free + l.free == bits::clear_in(bits, t);
-            }
-            return false;
-        }
-        return false;
-    }
-    false
-}
 
 // A present local stands as a holder, an absent one is the word 0.
 fn local_stands(
@@ -49,7 +22,7 @@ fn local_stands(
 {
     let l = local::load(locals, j);
     if l.present {
-        return holder_stands(h, table, trees, bits, class, l);
+        return holder_rules::holder_stands(h, table, trees, bits, class, l);
     }
     local::word(locals, j) == 0
 }
@@ -94,7 +67,7 @@ pub fn locals_stand(
     let mut first: usize = 0;
     let mut class: usize = 0;
     while class < 8 {
-        let len = words::locals_in(&places, class);
+        let len = headers::locals_in(&places, class);
         if !class_stands(h, table, trees, locals, bits, class, first, len) {
             return false;
         }

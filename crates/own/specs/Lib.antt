@@ -1,2 +1,2 @@
--- the two parts of a take from the own local, by name
+-- a part of a take from the own local, by name
 pub mod Own

@@ -10,38 +10,14 @@ ghost use Rattle.rules.specs.Words.{config};
 ghost use Rattle.rules.specs.Locals.{mayPay, mayMove, payerIn, stealAny, demoteAny};
 ghost use Rattle.payers.specs.Loops.{payerAt};
 
-// Whether a kind pays: Steal or Match.
-fn may_pay(kind: Kind) -> bool
-    ensures { λ r. ⌜ r ≡ mayPay kind ⌝ }
-{
-    match kind {
-        Kind::Invalid => false,
-        Kind::Steal => true,
-        Kind::Demote => false,
-        Kind::Match(_) => true,
-    }
-}
-
-// Whether a kind lets a reservation move: Demote.
-fn may_move(kind: Kind) -> bool
-    ensures { λ r. ⌜ r ≡ mayMove kind ⌝ }
-{
-    match kind {
-        Kind::Invalid => false,
-        Kind::Steal => false,
-        Kind::Demote => true,
-        Kind::Match(_) => false,
-    }
-}
-
 // The test of a demote, or else of a steal.
 fn may(demote: bool, kind: Kind) -> bool
     ensures { λ r. ⌜ r ≡ pick demote mayMove mayPay kind ⌝ }
 {
     if demote {
-        may_move(kind)
+        policy::may_move(kind)
     } else {
-        may_pay(kind)
+        policy::may_pay(kind)
     }
 }
 
@@ -60,8 +36,8 @@ fn payer_at(
     requires { ⌜ (class < 8) × (k < 8) ⌝ }
     ensures { λ r. ⌜ r ≡ payerAt (pick demote mayMove mayPay) (config h (now (table .entry))) (now (locals .entry)) class from name n k ⌝ }
 {
-    if words::is_configured(h, k) {
-        if may(demote, words::ask(h, table, class, k, n)) {
+    if headers::is_configured(h, k) {
+        if may(demote, policy::ask(h, table, class, k, n)) {
             return first_local::first_local(h, locals, k, from, name, n);
         }
         return Payer::Nobody;

@@ -96,9 +96,9 @@ fn local_lines(locals: &[u64]) {
 fn class_line(h: Header, class: usize)
     requires { ⌜ class < 8 ⌝ }
 {
-    if words::is_configured(h, class) {
-        let locals = words::locals_of(h, class);
-        let first = words::first_slot(h, class);
+    if headers::is_configured(h, class) {
+        let locals = headers::locals_of(h, class);
+        let first = headers::first_slot(h, class);
         prints::form(
             Program::Runner,
             b"  class %: locals %, the first is local %\n",

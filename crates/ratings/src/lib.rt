@@ -1,11 +1,15 @@
-// The rating of a policy's answer in each of the three walks.
+// The rating of a tree in each of the three walks, by the policy's answer.
+use rules::Header;
 use rules::Kind;
+use rules::Request;
+use rules::Tree;
 use ways::Walk;
 ghost use mathlib.Core.Path.{_≡_};
-ghost use Prim.Native.Nat.{_≤_};
+ghost use Prim.Native.Nat.{_<_, _≤_};
 ghost use lib.Dec.{eqb};
+ghost use Rattle.rules.specs.Words.{config};
 ghost use Rattle.rules.specs.Policy.{policyOf};
-ghost use Rattle.ways.specs.Walk.{ratedIn};
+ghost use Rattle.ways.specs.Walk.{ratedIn, rate};
 ghost use Rattle.ratings.specs.Rating.{ratingOf};
 
 // The rating of a policy's answer in a walk: Invalid 0, Steal 1, Demote 2, Match r is 3 + r.
@@ -46,9 +50,23 @@ fn rated_in(walk: Walk, full: bool, kind: Kind) -> usize
 }
 
 // The rating of a pair's word in a walk, for a tree with so many free.
-pub fn rated_of(w: u32, walk: Walk, free: usize) -> usize
+fn rated_of(w: u32, walk: Walk, free: usize) -> usize
     ensures { λ r. ⌜ (r ≡ ratedIn walk (eqb free 2048) (policyOf w free)) × (r ≤ 258) ⌝ }
 {
-    let kind = words::policy_of(w, free);
+    let kind = policy::policy_of(w, free);
     rated_in(walk, free == 2048, kind)
+}
+
+// The rating of a tree in a walk: 0 where it is reserved or has too little free.
+pub fn rate(h: Header, table: &[u32; 64], q: Request, walk: Walk, e: Tree) -> usize
+    requires { ⌜ (q .order ≤ 11) × ((q .class < 8) × (e .class < 8)) ⌝ }
+    ensures { λ r. ⌜ (r ≡ rate (config h (now (table .entry))) q walk e) × (r ≤ 258) ⌝ }
+{
+    if e.reserved {
+        return 0;
+    }
+    if e.free < sizes::size(q.order) {
+        return 0;
+    }
+    rated_of(policy::pair_at(h, table, q.class, e.class), walk, e.free)
 }

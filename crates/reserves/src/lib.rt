@@ -59,13 +59,13 @@ pub fn reserved(
 {
     match lower::lower_get(bits, t * 32, q.order, Name::Any) {
         Found::At(f) => {
-            let free = words::less(old as usize, sizes::size(q.order));
+            let free = headers::less(old as usize, sizes::size(q.order));
             let l = local_swaps::swap(locals, j, reservation(t, free));
-            let back = steps::unreserve_local(h, table, trees, q.class, l);
+            let back = unreserves::unreserve_local(h, table, trees, q.class, l);
             or_stuck(back, ends::done(f, q.class, looks, tries + 1))
         }
         Found::Nothing => {
-            let back = steps::unreserve(h, table, trees, t, q.class, old as usize);
+            let back = unreserves::unreserve(h, table, trees, t, q.class, old as usize);
             or_stuck(back, ends::missed(looks, tries + 1))
         }
     }

@@ -1,6 +1,6 @@
 -- The start of a search after the own local. A tree that a failed own reservation gives comes out of a local's word, and is small. Assumes nothing.
 use mathlib.Core.Path.{_≡_, refl, sym, subst}
-use mathlib.Core.Bool.{true, false}
+use mathlib.Core.Bool.{true, false, true≢false}
 use native.Mathlib.Nat.{div-le-self, mul-le-mul-right, le-trans}
 use Prim.Native.Nat.{ℕ, zero, suc, _-_, _*_, _/_, _^_, _<_, _≤_}
 use native.Mathlib.Omega.{arith}
@@ -41,24 +41,20 @@ after-small start Got.Missed s r x = r
 after-small start (Got.MissedAt t) s r x = x
 after-small start Got.Stuck s r x = r
 
--- true is not false
-apart : {X : Type 0} → true ≡ false → X
-apart e = let z : _≡_ {A = ℕ} 0 1 = cc in absurd (omega arith)
-
 module _ (start : ℕ) (s : State) (next : ℕ → State → Way) where
   pub from-ends : (g : Got) → ends g ≡ true → orFrom start (out g s) next ≡ out g s
   unfolding ends orFrom
   from-ends (Got.Done f k) e = refl
-  from-ends Got.Missed e = apart (cc)
-  from-ends (Got.MissedAt t) e = apart (cc)
+  from-ends Got.Missed e = absurd (true≢false (sym e))
+  from-ends (Got.MissedAt t) e = absurd (true≢false (sym e))
   from-ends Got.Stuck e = refl
 
   pub from-goes : (g : Got) → ends g ≡ false → orFrom start (out g s) next ≡ next (startAfter start g) s
   unfolding ends orFrom startAfter
-  from-goes (Got.Done f k) e = apart e
+  from-goes (Got.Done f k) e = absurd (true≢false e)
   from-goes Got.Missed e = refl
   from-goes (Got.MissedAt t) e = refl
-  from-goes Got.Stuck e = apart e
+  from-goes Got.Stuck e = absurd (true≢false e)
 
 row-small : (w : ℕ) → localOf w .row / 32 < 2 ^ 44
 unfolding localOf

@@ -31,11 +31,11 @@ fn start_tree(h: Header, table: &[u32; 64], q: Request, i: usize) -> usize
     requires { ⌜ Fits h q × (i < 2 ^ 32) ⌝ }
     ensures { λ r. ⌜ (r ≡ startTree (config h (now (table .entry))) q (Given.Local i)) × (r < 2 ^ 44) ⌝ }
 {
-    let m = words::locals_of(h, q.class);
+    let m = headers::locals_of(h, q.class);
     if m == 0 {
         return 0;
     }
-    portion(words::tree_count(h.frames), m, i)
+    portion(headers::tree_count(h.frames), m, i)
 }
 
 // The start of a search after the own local: the tree of a present reservation that failed, or else the start as given.
@@ -56,7 +56,7 @@ fn is_reserving(h: Header, table: &[u32; 64], q: Request, local: Given) -> bool
     ensures { λ r. ⌜ r ≡ reserving (config h (now (table .entry))) q local ⌝ }
 {
     match local {
-        Given::Local(_) => words::locals_of(h, q.class) < words::tree_count(h.frames),
+        Given::Local(_) => headers::locals_of(h, q.class) < headers::tree_count(h.frames),
         Given::Nothing => false,
     }
 }
@@ -81,7 +81,7 @@ fn search_trees(
     if !is_reserving(h, table, q, local) {
         return search::search_and_steal(h, table, trees, locals, bits, q, start, 0, 0);
     }
-    let j = words::slot(h, q.class, i);
+    let j = headers::slot(h, q.class, i);
     let name = Name::Any;
     let r = take::get_local(h, table, trees, locals, bits, q, name, j, 1, 0, 0);
     let got = r.got;

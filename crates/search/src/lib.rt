@@ -33,7 +33,7 @@ fn search_all(
         (st (now (trees .entry)) (now (locals .entry)) (now (bits .entry)) looks tries))
         × ((r .looks ≤ looks + 1024) × (r .tries ≤ tries + 1032)) ⌝ }
 {
-    let n = words::tree_count(h.frames);
+    let n = headers::tree_count(h.frames);
     let p = Path {
         m: 8,
         n: n,
@@ -65,7 +65,7 @@ fn search_near(
     if 9 <= q.order {
         return ends::missed(looks, tries);
     }
-    let n = words::tree_count(h.frames);
+    let n = headers::tree_count(h.frames);
     let last = spans::near(n);
     let p = Path {
         m: 3,
@@ -96,7 +96,7 @@ pub fn search_and_reserve(
         ≡ searchAndReserve (config h (now (table .entry))) q j start (st (now (trees .entry)) (now (locals .entry)) (now (bits .entry)) looks tries))
         × ((r .looks ≤ looks + 2048) × (r .tries ≤ tries + 2048)) ⌝ }
 {
-    let n = words::tree_count(h.frames);
+    let n = headers::tree_count(h.frames);
     let from = spans::rounded_start(n, start);
     let r = search_near(h, table, trees, locals, bits, q, j, from, looks, tries);
     let got = r.got;

@@ -33,7 +33,7 @@ pub fn search_best(
     let mut asked = tries;
     let mut s = walk::walk_on(h, table, trees, q, w, p, p.first, [0; 8], looks);
     while s.at < p.last {
-        let t = best::place(p.n, p.start, s.at);
+        let t = spans::place(p.n, p.start, s.at);
         let seen = s.looks + 1;
         let a = steal::access(h, table, trees, locals, bits, q, w, j, t, seen, asked);
         let got = a.got;

@@ -1,7 +1,8 @@
-// How far near is, and where a reserving search begins.
+// The trees of a walk: how far near is, where a reserving search begins, which tree each step visits.
 ghost use mathlib.Core.Path.{_≡_};
-ghost use Prim.Native.Nat.{_^_, _<_, _≤_};
+ghost use Prim.Native.Nat.{_%_, _^_, _<_, _≤_};
 ghost use Rattle.ways.specs.Search.{near, roundedStart};
+ghost use Rattle.ways.specs.Walk.{place};
 
 // near = max(n / 16, 4).
 pub fn near(n: usize) -> usize
@@ -25,4 +26,33 @@ pub fn rounded_start(n: usize, start: usize) -> usize
         e += 1;
     }
     0
+}
+
+// x modulo n, with no division where x is below 2n.
+fn within(x: usize, n: usize) -> usize
+    requires { ⌜ 0 < n ⌝ }
+    ensures { λ r. ⌜ (r ≡ x % n) × (r < n) ⌝ }
+{
+    if x < n {
+        return x;
+    }
+    if x - n < n {
+        return x - n;
+    }
+    x % n
+}
+
+// The tree that step i of a walk visits: start + offset, modulo n; even i gives +i/2, odd i gives −(i+1)/2.
+pub fn place(n: usize, start: usize, i: usize) -> usize
+    requires { ⌜ (0 < n) × ((n ≤ 1024) × ((start < 2 ^ 44) × (i ≤ 1024))) ⌝ }
+    ensures { λ r. ⌜ (r ≡ place n start i) × (r < n) ⌝ }
+{
+    if i % 2 == 0 {
+        return within(start + i / 2, n);
+    }
+    let back = (i + 1) / 2;
+    if start + n < back {
+        return 0;
+    }
+    within(start + n - back, n)
 }

@@ -1,20 +1,16 @@
-// What several routes do: read the given index, ask the lower for frames that were taken, return a reservation.
+// What several routes do: read the given index, ask the lower for frames that were taken.
 use rules::Found;
 use rules::Given;
 use rules::Header;
-use rules::Local;
 use rules::Name;
 use rules::Request;
-use rules::Took;
 use ways::Routed;
 ghost use mathlib.Core.Path.{_≡_};
 ghost use mathlib.Core.List.{List};
 ghost use Prim.Native.Nat.{ℕ, _+_, _/_, _^_, _<_, _≤_};
-ghost use Rattle.rules.specs.Base.{out};
 ghost use Rattle.rules.specs.Words.{config};
 ghost use Rattle.ways.specs.State.{st, ended, indexOf, askLower};
 ghost use Rattle.ways.specs.Fits.{Fits};
-ghost use Rattle.steps.specs.Returned.{returned, returnedLocal};
 
 // The given index, 0 if none.
 pub fn index_of(local: Given) -> usize
@@ -51,39 +47,4 @@ pub fn ask_lower(
             ends::missed(looks, tries + 1)
         }
     }
-}
-
-// The reservation on tree t is returned, held by a class with so many free. False: the return is stuck.
-pub fn unreserve(
-    h: Header,
-    table: &[u32; 64],
-    trees: &mut [u32],
-    t: usize,
-    class: usize,
-    free: usize,
-) -> bool
-    requires { ⌜ (h .default < 8) × ((class < 8) × (free < 2 ^ 32)) ⌝ }
-    ensures { λ r. ⌜ out r (now (trees .exit)) ≡ returned (config h (now (table .entry))) t class free (now (trees .entry)) ⌝ }
-{
-    match trees::unreserve(h, table, trees, t, class, free) {
-        Took::Yes(_) => true,
-        Took::No => false,
-    }
-}
-
-// The reservation of a local of a class is returned, if there is one. False: the return is stuck.
-pub fn unreserve_local(
-    h: Header,
-    table: &[u32; 64],
-    trees: &mut [u32],
-    class: usize,
-    l: Local,
-) -> bool
-    requires { ⌜ (h .default < 8) × ((class < 8) × (l .free < 2 ^ 32)) ⌝ }
-    ensures { λ r. ⌜ out r (now (trees .exit)) ≡ returnedLocal (config h (now (table .entry))) l class (now (trees .entry)) ⌝ }
-{
-    if l.present {
-        return unreserve(h, table, trees, l.row / 32, class, l.free);
-    }
-    true
 }

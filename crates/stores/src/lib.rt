@@ -172,7 +172,7 @@ fn exact_trees(frames: usize) -> usize
     if frames > 0x20_0000 {
         return 1024;
     }
-    words::tree_count(frames)
+    headers::tree_count(frames)
 }
 
 // The tree words lent, of so many that there are.
@@ -193,7 +193,7 @@ pub fn lent_locals(setup: Setup, most: usize) -> usize
     if setup.locals > 0 {
         return at_most(setup.locals - 1, most);
     }
-    at_most(words::local_count(setup.h), most)
+    at_most(headers::local_count(setup.h), most)
 }
 
 // The bitmap words lent, of so many that there are.

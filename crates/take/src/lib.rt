@@ -77,7 +77,7 @@ fn top_up(
         return ends::missed_at(row / 32, looks, tries);
     }
     let n = sizes::size(q.order);
-    if own::topped(h, table, trees, locals, j, row, free, n) {
+    if top_ups::topped(h, table, trees, locals, j, row, free, n) {
         let k = syncs - 1;
         return get_local(h, table, trees, locals, bits, q, name, j, k, looks, tries);
     }
@@ -104,7 +104,7 @@ pub fn own_local(
 {
     match local {
         Given::Local(i) => {
-            let j = words::slot(h, q.class, i);
+            let j = headers::slot(h, q.class, i);
             get_local(h, table, trees, locals, bits, q, name, j, 1, looks, tries)
         }
         Given::Nothing => ends::missed(looks, tries),

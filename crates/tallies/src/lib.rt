@@ -14,8 +14,8 @@ fn local_free(h: Header, table: &[u32; 64], locals: &[u64], class: usize) -> usi
     requires { ⌜ class < 8 ⌝ }
     ensures { λ r. ⌜ (r ≡ localFree (config h (now (table .entry))) (now (locals .entry)) class) × (r ≤ 2 ^ 27) ⌝ }
 {
-    let first = words::first_slot(h, class);
-    let n = words::locals_of(h, class);
+    let first = headers::first_slot(h, class);
+    let n = headers::locals_of(h, class);
     let mut free: usize = 0;
     for i in 0..n {
         let l = local::load(locals, first + i);
@@ -35,8 +35,8 @@ fn row(e: Entries, more: usize, reserved: [usize; 8], class: usize) -> Tally
     Tally {
         free: free[class] + more,
         alloc: alloc[class],
-        used: words::less(
-            words::less(2048 * trees[class], free[class]),
+        used: headers::less(
+            headers::less(2048 * trees[class], free[class]),
             reserved[class],
         ),
     }
@@ -75,8 +75,8 @@ pub fn all_rows<'a>(h: Header, table: &'a [u32; 64], trees: &'a [u32], locals: &
     requires { ⌜ h .frames ≤ 2 ^ 21 ⌝ }
     ensures { λ r. ⌜ r ≡ rowsOf (tally (config h (now (table .entry))) (now (trees .entry)) (now (locals .entry))) ⌝ }
 {
-    let e = by_class::entries_by_class(trees, words::tree_count(h.frames));
-    let held = by_class::reserved_by_class(trees, locals, words::local_count(h));
+    let e = by_class::entries_by_class(trees, headers::tree_count(h.frames));
+    let held = by_class::reserved_by_class(trees, locals, headers::local_count(h));
     Rows {
         r0: class_row(h, table, locals, e, held, 0),
         r1: class_row(h, table, locals, e, held, 1),

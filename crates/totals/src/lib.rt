@@ -56,8 +56,8 @@ pub fn totals(h: Header, table: &[u32; 64], trees: &[u32], locals: &[u64]) -> Wh
     ensures { λ r. ⌜ (r .free ≡ totalFree (config h (now (table .entry))) (now (trees .entry)) (now (locals .entry)))
         × (r .trees ≡ freeTrees (config h (now (table .entry))) (now (trees .entry)) (now (locals .entry))) ⌝ }
 {
-    let a = entries_whole(trees, words::tree_count(h.frames));
-    let b = locals_whole(locals, words::local_count(h));
+    let a = entries_whole(trees, headers::tree_count(h.frames));
+    let b = locals_whole(locals, headers::local_count(h));
     Whole {
         free: a.free + b.free,
         trees: a.trees + b.trees,

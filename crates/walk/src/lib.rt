@@ -56,9 +56,9 @@ pub fn walk_on(
     let mut seen = looks;
     let mut k = i;
     while k < p.last {
-        let t = best::place(p.n, p.start, k);
+        let t = spans::place(p.n, p.start, k);
         let e = trees::load(trees, t);
-        let r = best::rate(h, table, q, w, e);
+        let r = ratings::rate(h, table, q, w, e);
         if r == 258 {
             return Stand {
                 at: k,

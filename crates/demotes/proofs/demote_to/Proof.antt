@@ -1,6 +1,6 @@
 -- `demotes::demote_to` meets its contract. Assumes nothing.
 use mathlib.Core.Path.{_∙_}
-use Rattle.steps.specs.Returned.{local-returned, onReturned, unreserve-returned}
+use Rattle.unreserves.specs.Returned.{local-returned, onReturned, unreserve-returned}
 use Rattle.ways.specs.Fits.{given-small}
 use Rattle.ways.specs.Locals.{demoteTo}
 use Rattle.ways.specs.State.{onSwap, withLocals, withTrees}

@@ -1,7 +1,7 @@
 -- `drain_body::drain_local` meets its contract. Assumes nothing.
 use native.Mathlib.Omega.{arith}
 use Rattle.drain_body.specs.Loops.{drainOne}
-use Rattle.steps.specs.Returned.{local-returned, returned-alone}
+use Rattle.unreserves.specs.Returned.{local-returned, returned-alone}
 use Rattle.ways.specs.State.{onSwap, withLocals, withTrees}
 use borrow.Author.Needs.{needs}
 use Rattle.drain_body.proofs.drain_local.Statement.{statement}

@@ -1,5 +1,5 @@
 -- `reserves::reserved` meets its contract. Assumes nothing.
-use Rattle.steps.specs.Returned.{local-returned, returned-if, unreserve-returned}
+use Rattle.unreserves.specs.Returned.{local-returned, returned-if, unreserve-returned}
 use Rattle.ways.specs.Walk.{reserved}
 use Rattle.ways.specs.State.{onFound, onSwap, withLocals, withTrees, withTry}
 use native.Mathlib.Omega.{arith}

@@ -1,5 +1,5 @@
 -- `take::get_local`, `take::top_up` meet their contracts. Assumes nothing.
-use Rattle.own.specs.Own.{onTopped, top-topped}
+use Rattle.top_ups.specs.Topped.{onTopped, top-topped}
 use Rattle.take.specs.TopUp.{take-parts, topUp-more, topUp-none}
 use Rattle.ways.specs.Locals.{getLocal}
 use Rattle.ways.specs.State.{onHeld, withLocals}
@@ -19,7 +19,7 @@ use Rattle.ends.proofs.missed.Reads as missed-reads
 use Rattle.ends.proofs.missed_at.Reads as missed-at-reads
 use Rattle.local_frames.proofs.take.Reads as take-reads
 use Rattle.own.proofs.at_row.Reads as at-row-reads
-use Rattle.own.proofs.topped.Reads as topped-reads
+use Rattle.top_ups.proofs.topped.Reads as topped-reads
 use Rattle.take.proofs.+get_local+top_up.{statement}
 use Rattle.take.proofs.+get_local+top_up.Tie.{close}
 

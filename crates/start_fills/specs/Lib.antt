@@ -1,2 +1,0 @@
--- laws that the loops go by; the definitions are in `ways`
-pub mod Fill

@@ -1,0 +1,2 @@
+-- the top up of the own local, by name
+pub mod Topped
