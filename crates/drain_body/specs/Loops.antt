@@ -4,7 +4,7 @@ use mathlib.Core.Bool.{Bool, true, false}
 use mathlib.Core.List.{List}
 use Prim.Native.Nat.{ℕ, suc, _+_, _-_, _<_, _≤_}
 use native.Mathlib.Omega.{arith}
-use Rattle.rules.specs.Base.{Out, out}
+use Rattle.rules.specs.Base.{Out, out, sum}
 use Rattle.rules.specs.Words.{Config, localsOf, slot}
 use Rattle.rules.specs.Locals.{localClear}
 use Rattle.rules.specs.declared.Local.{Local}
@@ -35,10 +35,21 @@ module _ (c : Config) (last : ℕ) (s : State) where
   locals-end k i h = let e : last - i ≡ 0 = omega arith in rw e
 
   -- one local, then the next ones
-  pub locals-more : (k i : ℕ) → i < last
+  locals-more : (k i : ℕ) → i < last
       → drainLocals (last - i) c k i s ≡ onDrained (drainOne c k (slot (c .places) k i) s) (drainLocals (last - (i + 1)) c k (i + 1))
   unfolding drainLocals drainOne onSwap localClear
   locals-more k i h = let e : last - i ≡ suc (last - (i + 1)) = omega arith in rw e (local-next c _ k _ _)
+
+  -- one that is stuck ends them; after one that is drained the next ones are left
+  pub locals-stuck : (k i first : ℕ) {r : Bool} {t : State} → i < last → first ≡ sum (localsOf (c .places)) 0 k → out r t ≡ drainOne c k (first + i) s
+      → r ≡ false → out false t ≡ drainLocals (last - i) c k i s
+  unfolding onDrained slot
+  locals-stuck k i first h e d f = rw (locals-more k i h, ← e, ← d, f)
+
+  pub locals-next : (k i first : ℕ) {r : Bool} {t : State} → i < last → first ≡ sum (localsOf (c .places)) 0 k → out r t ≡ drainOne c k (first + i) s
+      → r ≡ true → drainLocals (last - (i + 1)) c k (i + 1) t ≡ drainLocals (last - i) c k i s
+  unfolding onDrained slot
+  locals-next k i first h e d f = rw (locals-more k i h, ← e, ← d, f)
 
   -- no class is left
   pub classes-end : (k : ℕ) → last ≤ k → drainClasses (last - k) c k s ≡ out true s

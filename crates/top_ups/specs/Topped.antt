@@ -2,16 +2,17 @@
 use mathlib.Core.Path.{_≡_, refl}
 use mathlib.Core.Bool.{Bool, true, false}
 use mathlib.Core.List.{List}
-use Prim.Native.Nat.{ℕ, _-_, _/_}
+use Prim.Native.Nat.{ℕ, _-_, _/_, _<_, _≤_}
 use lib.Dec.{ltb}
+use borrow.Author.Tests.{le-ltb, lt-ltb}
 use Rattle.rules.specs.Base.{ifte, Out, out}
 use Rattle.rules.specs.Words.{Config, treeRows}
-use Rattle.rules.specs.Entries.{entrySync}
+use Rattle.rules.specs.Entries.{entryPut, entrySync}
 use Rattle.rules.specs.Locals.{localPut}
 use Rattle.rules.specs.declared.Request.{Request}
 use Rattle.rules.specs.declared.Synced.{Synced}
 use Rattle.rules.specs.declared.Synced.the-variants as Synced
-use Rattle.ways.specs.State.{State, Way, size, missedAt, onSync, onPut, putEntry}
+use Rattle.ways.specs.State.{State, Way, st, size, missedAt, onSync, onPut, putEntry, withTrees, withLocals}
 use Rattle.ways.specs.Locals.{topBy}
 
 -- the local at place j, which has too few for n frames, gets those of its tree's entry: whether it was topped up
@@ -54,3 +55,24 @@ pub top-topped : (again : State → Way) (c : Config) (q : Request) (j row free 
 unfolding topBy topped
 top-topped again c q j row free s =
     if-topped again _ _ s _ _ (sync-topped again _ _ _ s (λ x s1. put-topped again _ (putEntry c (row / treeRows (c .order)) x) s1 _) _)
+
+-- its ways in the terms of the code: it holds more already; the entry gives nothing; the local takes what it gives, or will not
+module _ (c : Config) (n j row free : ℕ) (ts ls bs : List ℕ) (looks tries : ℕ) where
+  pub topped-past : n < free → out false (st ts ls bs looks tries) ≡ topped c n j row free (st ts ls bs looks tries)
+  unfolding topped ifte
+  topped-past h = rw (lt-ltb _ _ h)
+
+  module _ {o : Synced} {us : List ℕ} (h : free ≤ n) (asked : out o us ≡ entrySync ts (row / treeRows (c .order)) (n - free)) where
+    pub topped-nothing : o ≡ Synced.Nothing → out false (st us ls bs looks tries) ≡ topped c n j row free (st ts ls bs looks tries)
+    unfolding topped onSync withTrees ifte
+    topped-nothing nothing = rw (le-ltb _ _ h, ← asked, nothing)
+
+    module _ {x : ℕ} {r : Bool} {ms : List ℕ} (some : o ≡ Synced.Free x) (given : out r ms ≡ localPut (c .order) ls j (row / treeRows (c .order)) x) where
+      pub topped-up : r ≡ true → out true (st us ms bs looks tries) ≡ topped c n j row free (st ts ls bs looks tries)
+      unfolding topped onSync onPut withTrees withLocals ifte
+      topped-up took = rw (le-ltb _ _ h, ← asked, some, ← given, took)
+
+      pub topped-refused : {vs : List ℕ} → r ≡ false → vs ≡ entryPut c us (row / treeRows (c .order)) x
+          → out false (st vs ms bs looks tries) ≡ topped c n j row free (st ts ls bs looks tries)
+      unfolding topped onSync onPut putEntry withTrees withLocals ifte
+      topped-refused refused paid = rw (le-ltb _ _ h, ← asked, some, ← given, refused, paid)

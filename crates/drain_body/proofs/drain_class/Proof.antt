@@ -1,14 +1,14 @@
 -- `drain_body::drain_class` meets its contract. The loop's invariant: the locals from here on drain to the same state as all of them. Assumes nothing.
-use mathlib.Core.Path.{_≡_, refl}
+use mathlib.Core.Path.{_≡_, refl, _∙_}
 use mathlib.Core.List.{List}
 use Prim.Native.Nat.{ℕ, _-_}
 use native.Mathlib.Omega.{arith}
 use lib.ListN.{length}
 use borrow.Author.Needs.{needs}
 use borrow.Author.Tests.{not-true, not-false}
-use Rattle.rules.specs.Words.{config, slot}
-use Rattle.ways.specs.Calls.{fresh, drainLocals, onDrained}
-use Rattle.drain_body.specs.Loops.{locals-end, locals-more}
+use Rattle.rules.specs.Words.{config}
+use Rattle.ways.specs.Calls.{fresh, drainLocals}
+use Rattle.drain_body.specs.Loops.{locals-end, locals-stuck, locals-next}
 use Rattle.drain_body.proofs.drain_class.Statement.{statement}
 use Rattle.drain_body.proofs.drain_class.Tie as tie
 
@@ -43,17 +43,14 @@ same-length-2 : tie.Need-same-length-2 Inv-loop μ-loop
 same-length-2 c = search needs
 
 returns : tie.Need-returns Inv-loop μ-loop
-unfolding onDrained slot
 returns c =
     λ b.
-    rw (
-      ← c .before .before .before .before .before .before .before .before .before .before .before .locals-of .ensures .0,
-      ← c .before .before .before .before .before .before .before .before .before .loop .inv .1 .1 b,
-      locals-more _ _ _ _ _ (c .before .before .before .before .before .before .before .before .loop-test .taken),
-      ← c .before .before .before .before .before .before .before .before .before .before .first-slot .ensures .0,
-      ← c .before .before .before .before .before .drain-local .ensures b,
-      not-true (c .before .before .before .before .before .drain-local .result) (c .if1 .taken),
-    )
+    rw (← c .before .before .before .before .before .before .before .before .before .before .before .locals-of .ensures .0)
+    (locals-stuck _ _ _ _ _ _ (c .before .before .before .before .before .before .before .before .loop-test .taken)
+    (c .before .before .before .before .before .before .before .before .before .before .first-slot .ensures .0)
+    (c .before .before .before .before .before .drain-local .ensures b)
+    (not-true (c .before .before .before .before .before .drain-local .result) (c .if1 .taken))
+    ∙ c .before .before .before .before .before .before .before .before .before .loop .inv .1 .1 b)
 
 add-i : tie.Need-add-i Inv-loop μ-loop
 add-i c = search needs
@@ -62,19 +59,16 @@ loop-less : tie.Need-loop-less Inv-loop μ-loop
 loop-less c = search needs
 
 loop-again : tie.Need-loop-again Inv-loop μ-loop
-unfolding onDrained slot
 loop-again c = (
   search needs,
   (
     search needs,
     λ b.
-        rw (
-          ← c .before .before .before .before .before .before .before .before .before .loop .inv .1 .1 b,
-          locals-more _ _ _ _ _ (c .before .before .before .before .before .before .before .before .loop-test .taken),
-          ← c .before .before .before .before .before .before .before .before .before .before .first-slot .ensures .0,
-          ← c .before .before .before .before .before .drain-local .ensures b,
-          not-false (c .before .before .before .before .before .drain-local .result) (c .if1 .left),
-        ),
+        locals-next _ _ _ _ _ _ (c .before .before .before .before .before .before .before .before .loop-test .taken)
+        (c .before .before .before .before .before .before .before .before .before .before .first-slot .ensures .0)
+        (c .before .before .before .before .before .drain-local .ensures b)
+        (not-false (c .before .before .before .before .before .drain-local .result) (c .if1 .left))
+        ∙ c .before .before .before .before .before .before .before .before .before .loop .inv .1 .1 b,
   ),
 )
 

@@ -1,6 +1,6 @@
 -- `put_to::put_to` meets its contract. Assumes nothing.
-use Rattle.ways.specs.Calls.{putTo}
-use Rattle.ways.specs.State.{indexOf, onPut, putEntry, withTrees, withLocals}
+use Rattle.ways.specs.State.{indexOf}
+use Rattle.put_to.specs.To.{to-entry, to-local, past-local}
 use native.Mathlib.Omega.{arith}
 use borrow.Author.Needs.{needs}
 use Rattle.put_to.proofs.put_to.Statement.{statement}
@@ -31,15 +31,14 @@ same-length : tie.Need-same-length
 same-length c = omega (arith, c .before .before .before .put2 .kept)
 
 returns : tie.Need-returns
-unfolding putTo onPut putEntry withTrees withLocals
 returns c =
-    λ b. rw (
-      c .before .before .before .before .before .before .before .local .given .1,
-      ← c .before .before .before .before .before .before .before .before .before .size .ensures .0,
-      ← c .before .before .before .before .before .slot .ensures,
-      ← c .before .before .before .put2 .ensures,
-      c .if1 .taken,
-    )
+    λ b.
+    to-local _ _ _ _ _ _
+    (c .before .before .before .before .before .before .before .before .before .size .ensures .0)
+    (c .before .before .before .before .before .before .before .local .given .1)
+    (c .before .before .before .before .before .slot .ensures)
+    (c .before .before .before .put2 .ensures)
+    (c .if1 .taken)
 
 put-requires-3 : tie.Need-put-requires-3
 put-requires-3 c κs = search needs
@@ -48,13 +47,12 @@ same-length-2 : tie.Need-same-length-2
 same-length-2 c = omega (arith, c .before .before .put .kept)
 
 returns-2 : tie.Need-returns-2
-unfolding putTo onPut putEntry withTrees withLocals
 returns-2 c =
-    λ b. rw (
-      c .before .before .before .before .enum-told .given .1,
-      ← c .before .before .before .before .before .before .size .ensures .0,
-      ← c .before .before .put .ensures,
-    )
+    λ b.
+    to-entry _ _ _ _ _ _
+    (c .before .before .before .before .before .before .size .ensures .0)
+    (c .before .before .before .before .enum-told .given .1)
+    (c .before .before .put .ensures)
 
 same-length-3 : tie.Need-same-length-3
 same-length-3 c = omega (arith, c .before .before .put3 .kept, c .before .before .before .before .before .before .before .put2 .kept)
@@ -63,16 +61,15 @@ same-length-4 : tie.Need-same-length-4
 same-length-4 c = omega (arith, c .before .before .put3 .kept, c .before .before .before .before .before .before .before .put2 .kept)
 
 returns-3 : tie.Need-returns-3
-unfolding putTo onPut putEntry withTrees withLocals
 returns-3 c =
-    λ b. rw (
-      c .before .before .before .before .before .before .before .before .before .before .before .local .given .1,
-      ← c .before .before .before .before .before .before .before .before .before .before .before .before .before .size .ensures .0,
-      ← c .before .before .before .before .before .before .before .before .before .slot .ensures,
-      ← c .before .before .before .before .before .before .before .put2 .ensures,
-      c .before .before .before .before .if1 .left,
-      ← c .before .before .put3 .ensures,
-    )
+    λ b.
+    past-local _ _ _ _ _ _
+    (c .before .before .before .before .before .before .before .before .before .before .before .before .before .size .ensures .0)
+    (c .before .before .before .before .before .before .before .before .before .before .before .local .given .1)
+    (c .before .before .before .before .before .before .before .before .before .slot .ensures)
+    (c .before .before .before .before .before .before .before .put2 .ensures)
+    (c .before .before .before .before .if1 .left)
+    (c .before .before .put3 .ensures)
 
 pub put-to-spec : {M : Type 1} → statement M
 put-to-spec =

@@ -1,16 +1,12 @@
 -- `top_ups::topped` meets its contract. Assumes nothing.
 use native.Mathlib.Omega.{arith}
-use Rattle.rules.specs.Base.{ifte}
-use Rattle.ways.specs.State.{onPut, onSync, putEntry, withLocals, withTrees}
-use Rattle.top_ups.specs.Topped.{topped}
-use borrow.Author.Tests.{le-ltb, lt-ltb}
+use Rattle.top_ups.specs.Topped.{topped-past, topped-nothing, topped-up, topped-refused}
 use borrow.Author.Needs.{needs}
 use Rattle.top_ups.proofs.topped.Statement.{statement}
 use Rattle.top_ups.proofs.topped.Tie as tie
 
 returns : tie.Need-returns
-unfolding topped onSync onPut putEntry withTrees withLocals ifte
-returns c = λ b looks tries. rw (lt-ltb _ _ (c .if1 .taken))
+returns c = λ b looks tries. topped-past _ _ _ _ _ _ _ _ _ _ (c .if1 .taken)
 
 sync-requires : tie.Need-sync-requires
 sync-requires c κs = search needs
@@ -31,14 +27,14 @@ same-length-2 : tie.Need-same-length-2
 same-length-2 c = omega (arith, c .before .before .before .put .kept, c .before .before .before .before .before .before .before .before .before .before .sync .kept)
 
 returns-2 : tie.Need-returns-2
-unfolding topped onSync onPut putEntry withTrees withLocals ifte
-returns-2 c = λ b looks tries. rw (
-  le-ltb _ _ (c .before .before .before .before .before .before .before .before .before .before .before .before .if1 .left),
-  ← c .before .before .before .before .before .before .before .before .before .before .sync .ensures,
-  c .before .before .before .before .before .before .x .given .1,
-  ← c .before .before .before .put .ensures,
-  c .if2 .taken,
-)
+returns-2 c =
+    λ b looks tries.
+    topped-up _ _ _ _ _ _ _ _ _ _
+    (c .before .before .before .before .before .before .before .before .before .before .before .before .if1 .left)
+    (c .before .before .before .before .before .before .before .before .before .before .sync .ensures)
+    (c .before .before .before .before .before .before .x .given .1)
+    (c .before .before .before .put .ensures)
+    (c .if2 .taken)
 
 cast-put-2 : tie.Need-cast-put-2
 cast-put-2 c = search needs
@@ -56,26 +52,26 @@ same-length-4 : tie.Need-same-length-4
 same-length-4 c = omega (arith, c .before .before .put2 .kept, c .before .before .before .before .before .before .before .put .kept, c .before .before .before .before .before .before .before .before .before .before .before .before .before .before .sync .kept)
 
 returns-3 : tie.Need-returns-3
-unfolding topped onSync onPut putEntry withTrees withLocals ifte
-returns-3 c = λ b looks tries. rw (
-  le-ltb _ _ (c .before .before .before .before .before .before .before .before .before .before .before .before .before .before .before .before .if1 .left),
-  ← c .before .before .before .before .before .before .before .before .before .before .before .before .before .before .sync .ensures,
-  c .before .before .before .before .before .before .before .before .before .before .x .given .1,
-  ← c .before .before .before .before .before .before .before .put .ensures,
-  c .before .before .before .before .if2 .left,
-  ← c .before .before .put2 .ensures,
-)
+returns-3 c =
+    λ b looks tries.
+    topped-refused _ _ _ _ _ _ _ _ _ _
+    (c .before .before .before .before .before .before .before .before .before .before .before .before .before .before .before .before .if1 .left)
+    (c .before .before .before .before .before .before .before .before .before .before .before .before .before .before .sync .ensures)
+    (c .before .before .before .before .before .before .before .before .before .before .x .given .1)
+    (c .before .before .before .before .before .before .before .put .ensures)
+    (c .before .before .before .before .if2 .left)
+    (c .before .before .put2 .ensures)
 
 same-length-5 : tie.Need-same-length-5
 same-length-5 c = omega (arith, c .before .before .before .before .sync .kept)
 
 returns-4 : tie.Need-returns-4
-unfolding topped onSync onPut putEntry withTrees withLocals ifte
-returns-4 c = λ b looks tries. rw (
-  le-ltb _ _ (c .before .before .before .before .before .before .if1 .left),
-  ← c .before .before .before .before .sync .ensures,
-  c .enum-told .given .1,
-)
+returns-4 c =
+    λ b looks tries.
+    topped-nothing _ _ _ _ _ _ _ _ _ _
+    (c .before .before .before .before .before .before .if1 .left)
+    (c .before .before .before .before .sync .ensures)
+    (c .enum-told .given .1)
 
 pub topped-spec : {M : Type 1} → statement M
 topped-spec =
