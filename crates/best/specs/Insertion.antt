@@ -77,20 +77,20 @@ unfolding insertedFrom
 inserted-first m x s f = refl
 
 -- one place on: inside, a word swapped, a word kept
-pub inserted-in : (k m x : ℕ) (s : List ℕ) → k < length s → insertedFrom k (suc m) true x s ≡ insertedFrom (suc k) m true (getD s k 0) (set s k x)
+inserted-in : (k m x : ℕ) (s : List ℕ) → k < length s → insertedFrom k (suc m) true x s ≡ insertedFrom (suc k) m true (getD s k 0) (set s k x)
 unfolding insertedFrom inserted
 inserted-in k m x [] h = absurd (omega arith)
 inserted-in zero m x (y ∷ l) h = refl
 inserted-in (suc k) m x (y ∷ l) h = ap (λ (r : List ℕ). y ∷ r) (inserted-in k m x l (le-of-suc-le-suc h))
 
-pub inserted-swap : (k m x : ℕ) (s : List ℕ) → k < length s → ltb (getD s k 0 / 2 ^ 32) (x / 2 ^ 32) ≡ true →
+inserted-swap : (k m x : ℕ) (s : List ℕ) → k < length s → ltb (getD s k 0 / 2 ^ 32) (x / 2 ^ 32) ≡ true →
     insertedFrom k (suc m) false x s ≡ insertedFrom (suc k) m true (getD s k 0) (set s k x)
 unfolding insertedFrom inserted ifte
 inserted-swap k m x [] h t = absurd (omega arith)
 inserted-swap zero m x (y ∷ l) h t = rw t
 inserted-swap (suc k) m x (y ∷ l) h t = ap (λ (r : List ℕ). y ∷ r) (inserted-swap k m x l (le-of-suc-le-suc h) t)
 
-pub inserted-keep : (k m x : ℕ) (s : List ℕ) → k < length s → ltb (getD s k 0 / 2 ^ 32) (x / 2 ^ 32) ≡ false →
+inserted-keep : (k m x : ℕ) (s : List ℕ) → k < length s → ltb (getD s k 0 / 2 ^ 32) (x / 2 ^ 32) ≡ false →
     insertedFrom k (suc m) false x s ≡ insertedFrom (suc k) m false x s
 unfolding insertedFrom inserted ifte
 inserted-keep k m x [] h t = absurd (omega arith)

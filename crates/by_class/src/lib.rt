@@ -25,7 +25,7 @@ pub fn entries_by_class(trees: &[u32], n: usize) -> Entries
         let e = trees::load(trees, t);
         let k = e.class;
         free[k] = free[k] + e.free;
-        alloc[k] = alloc[k] + headers::less(2048, e.free);
+        alloc[k] = alloc[k] + sizes::less(2048, e.free);
         count[k] = count[k] + 1;
     }
     Entries {

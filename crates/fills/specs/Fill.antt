@@ -11,7 +11,7 @@ use Rattle.lower_laws.specs.Cases.{below-or}
 use Rattle.rules.specs.Base.{listed}
 
 -- the words before place t are f of their place
-abbrev pub Written : (ℕ → ℕ) → ℕ → List ℕ → Type 0
+abbrev Written : (ℕ → ℕ) → ℕ → List ℕ → Type 0
 Written f t xs = (i : ℕ) → i < t → getD xs i 0 ≡ f i
 
 -- ys is xs with v stored from place a up to place b
@@ -37,12 +37,12 @@ module _ (v : ℕ) (xs : List ℕ) (a : ℕ) where
   }
 
 -- words written before place a, and then the same up to place b
-pub written-filled : (f : ℕ → ℕ) (xs ys : List ℕ) (a b v : ℕ) → Written f a xs → ((i : ℕ) → a ≤ i → i < b → v ≡ f i) → Filled a b v xs ys → Written f b ys
+written-filled : (f : ℕ → ℕ) (xs ys : List ℕ) (a b v : ℕ) → Written f a xs → ((i : ℕ) → a ≤ i → i < b → v ≡ f i) → Filled a b v xs ys → Written f b ys
 written-filled f xs ys a b v w h e i l =
     ⊎-elim (λ (k : i < a). e .kept i k ∙ w i k) (λ (k : a ≤ i). e .stored i k l ∙ h i k l) (below-or i a)
 
 -- all words
-pub written-all : (f : ℕ → ℕ) (xs : List ℕ) (a : ℕ) → ((i : ℕ) → i < length xs → getD xs i 0 ≡ f (a + i)) → xs ≡ listed f a (length xs)
+written-all : (f : ℕ → ℕ) (xs : List ℕ) (a : ℕ) → ((i : ℕ) → i < length xs → getD xs i 0 ≡ f (a + i)) → xs ≡ listed f a (length xs)
 unfolding listed
 written-all f [] a h = refl
 written-all f (x ∷ xs) a h =
@@ -50,7 +50,7 @@ written-all f (x ∷ xs) a h =
     (written-all f xs (suc a) (λ i l. h (suc i) (omega arith) ∙ ap f (let g : a + suc i ≡ suc a + i = omega arith in g)))
 
 -- a loop that has passed all words
-pub written-end : (f : ℕ → ℕ) (xs ys : List ℕ) (t : ℕ) → length xs ≡ length ys → length ys ≤ t → Written f t xs → xs ≡ listed f 0 (length ys)
+written-end : (f : ℕ → ℕ) (xs ys : List ℕ) (t : ℕ) → length xs ≡ length ys → length ys ≤ t → Written f t xs → xs ≡ listed f 0 (length ys)
 written-end f xs ys t e l h = rw (← e) (written-all f xs 0 (λ i m. h i (omega arith) ∙ ap f (sym (zero-add i))))
 
 module _ (f : ℕ → ℕ) (xs : List ℕ) where

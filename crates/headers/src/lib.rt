@@ -1,7 +1,7 @@
 // What a header says: the configured classes, their numbers of locals and where these stand, the number of trees. By value, or by lent places.
 use rules::Header;
 ghost use mathlib.Core.Path.{_≡_};
-ghost use Prim.Native.Nat.{_^_, _-_, _<_, _≤_};
+ghost use Prim.Native.Nat.{_^_, _<_, _≤_};
 ghost use Rattle.rules.specs.Base.{sum};
 ghost use Rattle.rules.specs.Words.{treeCount, configured, localsOf, slot, localCount};
 
@@ -10,13 +10,6 @@ pub fn wide(x: u8) -> usize
     ensures { λ r. ⌜ (r ≡ x) × (r < 256) ⌝ }
 {
     x as usize
-}
-
-// One number less another, but no less than 0.
-pub fn less(a: usize, b: usize) -> usize
-    ensures { λ r. ⌜ (r ≡ a - b) × (r ≤ a) ⌝ }
-{
-    if b < a { a - b } else { 0 }
 }
 
 // Whether a class is configured: lent places, so that none are copied.
@@ -32,7 +25,7 @@ pub fn locals_in(places: &[u8; 8], class: usize) -> usize
     requires { ⌜ class < 8 ⌝ }
     ensures { λ r. ⌜ (r ≡ localsOf (now (places .entry)) class) × (r < 256) ⌝ }
 {
-    less(wide(places[class]), 1)
+    sizes::less(wide(places[class]), 1)
 }
 
 // Whether a class is configured.

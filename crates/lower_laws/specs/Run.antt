@@ -11,7 +11,7 @@ use borrow.Author.Tests.{ne-eqb}
 use Rattle.rules.specs.Lower.{bit, held}
 use Rattle.lower_laws.specs.Sum.{sum-all, sum-zero, one-at, zero-at, sum-none}
 use Rattle.lower_laws.specs.Held.{bit-le, held-whole, held-more}
-use Rattle.lower_laws.specs.Ones.{ones-none, ones-every, ones-zero}
+use Rattle.lower_laws.specs.Ones.{ones-none, ones-zero}
 
 -- a part of a range that is wholly free, or wholly held
 pub free-part-of : (ws : List ℕ) (a n b k : ℕ) → held ws a n ≡ 0 → a ≤ b → b + k ≤ a + n → held ws b k ≡ 0

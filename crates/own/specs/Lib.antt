@@ -1,2 +1,2 @@
--- a part of a take from the own local, by name
+-- a part of a take from the own local
 pub mod Own

@@ -1,4 +1,4 @@
--- A part of a take from the own local by name: asking at its row. Assumes nothing.
+-- A part of a take from the own local as a definition of its own: asking at its row. Assumes nothing.
 use Prim.Native.Nat.{ℕ, _/_}
 use Rattle.rules.specs.Words.{Config, treeRows}
 use Rattle.rules.specs.Lower.{lowerGet}

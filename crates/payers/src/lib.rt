@@ -1,4 +1,4 @@
-// Which local pays: the first that has enough, over the classes from the requested one on. Reads the lent words, stores none.
+// Which local pays: the first that has enough, over the classes from the requested one on that may (crate `policy`). Reads the lent words, stores none.
 use rules::Header;
 use rules::Kind;
 use rules::Name;

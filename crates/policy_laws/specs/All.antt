@@ -1,6 +1,6 @@
 -- Laws of computed tests: `both`, `implies`, `pick`, and a test at every number below n. Assumes nothing.
 use mathlib.Core.Path.{_≡_, refl, ap, sym, _∙_}
-use mathlib.Core.Bool.{Bool, true, false}
+use mathlib.Core.Bool.{Bool, true, false, true≢false}
 use mathlib.Core.Logic.{⊎-elim}
 use Prim.Native.Nat.{ℕ, zero, suc, _+_, _<_, _≤_}
 use native.Mathlib.Nat.{le-of-suc-le-suc, not-suc-le-zero, eq-or-lt-of-le, lt-suc-self}
@@ -19,7 +19,7 @@ by false f g = g refl
 
 -- no test both passes and fails
 pub true-false : {X : Type 0} {t : Bool} → t ≡ true → t ≡ false → X
-true-false h g = absurd (let z : _≡_ {A = ℕ} 0 1 = cc in omega arith)
+true-false h g = absurd (true≢false (sym h ∙ g))
 
 -- tests that pass together are one
 pub same-test : (a b : Bool) → (a ≡ true → b ≡ true) → (b ≡ true → a ≡ true) → a ≡ b

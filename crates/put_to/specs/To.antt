@@ -1,5 +1,5 @@
 -- The ways of the frames of a put, in the terms of the code: no local is given, the given one holds their tree, or does not. Assumes nothing.
-use mathlib.Core.Path.{_≡_, sym}
+use mathlib.Core.Path.{_≡_}
 use mathlib.Core.Bool.{Bool, true, false}
 use mathlib.Core.List.{List}
 use Prim.Native.Nat.{ℕ, _/_}

@@ -59,7 +59,7 @@ pub fn reserved(
 {
     match lower::lower_get(bits, t * 32, q.order, Name::Any) {
         Found::At(f) => {
-            let free = headers::less(old as usize, sizes::size(q.order));
+            let free = sizes::less(old as usize, sizes::size(q.order));
             let l = local_swaps::swap(locals, j, reservation(t, free));
             let back = unreserves::unreserve_local(h, table, trees, q.class, l);
             or_stuck(back, ends::done(f, q.class, looks, tries + 1))

@@ -9,7 +9,7 @@ use Rattle.rules.specs.Words.{Config, trees, localsOf, slot}
 use Rattle.rules.specs.declared.Given.{Given}
 use Rattle.rules.specs.declared.Given.the-variants as Given
 use Rattle.rules.specs.declared.Request.{Request}
-use Rattle.ways.specs.State.{State, Way, indexOf}
+use Rattle.ways.specs.State.{State, indexOf}
 use Rattle.ways.specs.Get.{startTree, getReserving, searchTrees}
 use Rattle.ways.specs.Search.{searchAndSteal}
 

@@ -35,8 +35,8 @@ fn row(e: Entries, more: usize, reserved: [usize; 8], class: usize) -> Tally
     Tally {
         free: free[class] + more,
         alloc: alloc[class],
-        used: headers::less(
-            headers::less(2048 * trees[class], free[class]),
+        used: sizes::less(
+            sizes::less(2048 * trees[class], free[class]),
             reserved[class],
         ),
     }

@@ -1,2 +1,2 @@
--- the top up of the own local, by name
+-- the top up of the own local
 pub mod Topped

@@ -1,4 +1,4 @@
--- A part of a take from the own local by name: topping it up. Laws of `topBy`. Assumes nothing.
+-- A part of a take from the own local as a definition of its own: topping it up. Its ways; laws of `topBy`. Assumes nothing.
 use mathlib.Core.Path.{_≡_, refl}
 use mathlib.Core.Bool.{Bool, true, false}
 use mathlib.Core.List.{List}
@@ -68,9 +68,9 @@ module _ (c : Config) (n j row free : ℕ) (ts ls bs : List ℕ) (looks tries : 
     topped-nothing nothing = rw (le-ltb _ _ h, ← asked, nothing)
 
     module _ {x : ℕ} {r : Bool} {ms : List ℕ} (some : o ≡ Synced.Free x) (given : out r ms ≡ localPut (c .order) ls j (row / treeRows (c .order)) x) where
-      pub topped-up : r ≡ true → out true (st us ms bs looks tries) ≡ topped c n j row free (st ts ls bs looks tries)
+      pub topped-took : r ≡ true → out true (st us ms bs looks tries) ≡ topped c n j row free (st ts ls bs looks tries)
       unfolding topped onSync onPut withTrees withLocals ifte
-      topped-up took = rw (le-ltb _ _ h, ← asked, some, ← given, took)
+      topped-took took = rw (le-ltb _ _ h, ← asked, some, ← given, took)
 
       pub topped-refused : {vs : List ℕ} → r ≡ false → vs ≡ entryPut c us (row / treeRows (c .order)) x
           → out false (st vs ms bs looks tries) ≡ topped c n j row free (st ts ls bs looks tries)

@@ -1,2 +1,2 @@
--- a law that the code of this crate and of those above goes by; the definitions are in `rules`
+-- a law of stores that `trees` and `local` go by
 pub mod Past

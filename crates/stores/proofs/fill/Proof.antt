@@ -1,6 +1,5 @@
 -- `stores::fill` is safe and ends. Assumes nothing.
 use borrow.Author.Needs.{needs}
-use Prim.Native.Nat.{_-_}
 use mathlib.Core.Path.{_≡_}
 use lib.ListN.{length}
 use Rattle.stores.proofs.fill.Statement.{statement}

@@ -1,6 +1,6 @@
 -- `tallies::all_rows` meets its contract. Assumes nothing.
 use mathlib.Core.Path.{_≡_, _∙_}
-use Prim.Native.Nat.{ℕ, _<_, _≤_}
+use Prim.Native.Nat.{ℕ, _<_}
 use native.Mathlib.Omega.{arith}
 use Rattle.rules.specs.Words.{config}
 use Rattle.ways.specs.Statistics.{localFree, tally}

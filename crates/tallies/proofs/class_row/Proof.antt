@@ -1,6 +1,5 @@
 -- `tallies::class_row` meets its contract. Assumes nothing.
 use borrow.Author.Needs.{needs}
-use borrow.Author.Needs.{needs}
 use Rattle.tallies.proofs.class_row.Statement.{statement}
 use Rattle.tallies.proofs.class_row.Tie as tie
 

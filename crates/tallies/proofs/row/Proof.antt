@@ -1,7 +1,6 @@
 -- `tallies::row` meets its contract. Assumes nothing.
 use borrow.Author.Needs.{needs}
 use Rattle.tallies.specs.Rows.{rowOf}
-use borrow.Author.Needs.{needs}
 use Rattle.tallies.proofs.row.Statement.{statement}
 use Rattle.tallies.proofs.row.Tie as tie
 

@@ -1,6 +1,5 @@
 -- `texts::put_decimal` meets its contract. Assumes nothing.
 use mathlib.Core.Path.{ap, _∙_}
-use Prim.Native.Nat.{_-_}
 use native.Mathlib.Omega.{arith}
 use Rattle.texts.specs.Text.{text, write}
 use Rattle.texts.specs.Numbers.{decimal-is}

@@ -1,6 +1,6 @@
 -- `top_ups::topped` meets its contract. Assumes nothing.
 use native.Mathlib.Omega.{arith}
-use Rattle.top_ups.specs.Topped.{topped-past, topped-nothing, topped-up, topped-refused}
+use Rattle.top_ups.specs.Topped.{topped-past, topped-nothing, topped-took, topped-refused}
 use borrow.Author.Needs.{needs}
 use Rattle.top_ups.proofs.topped.Statement.{statement}
 use Rattle.top_ups.proofs.topped.Tie as tie
@@ -29,7 +29,7 @@ same-length-2 c = omega (arith, c .before .before .before .put .kept, c .before 
 returns-2 : tie.Need-returns-2
 returns-2 c =
     λ b looks tries.
-    topped-up _ _ _ _ _ _ _ _ _ _
+    topped-took _ _ _ _ _ _ _ _ _ _
     (c .before .before .before .before .before .before .before .before .before .before .before .before .if1 .left)
     (c .before .before .before .before .before .before .before .before .before .before .sync .ensures)
     (c .before .before .before .before .before .before .x .given .1)
