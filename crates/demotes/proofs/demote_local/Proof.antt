@@ -1,9 +1,8 @@
 -- `demotes::demote_local` meets its contract. Assumes nothing.
 use mathlib.Core.Path.{_∙_}
-use Rattle.ways.specs.Locals.{demoteLocal, moveFrom}
-use Rattle.ways.specs.State.{onHeld, onSwap, withLocals}
 use native.Mathlib.Omega.{arith}
 use borrow.Author.Needs.{needs}
+use Rattle.demotes.specs.Moved.{nobody, moves, few, absent}
 use Rattle.demotes.proofs.demote_local.Statement.{statement}
 use Rattle.demotes.proofs.demote_local.Tie as tie
 
@@ -29,9 +28,13 @@ same-length : tie.Need-same-length
 same-length c = search needs
 
 returns : tie.Need-returns
-unfolding demoteLocal moveFrom onHeld onSwap withLocals
 returns c = (
-  rw (← c .before .before .before .before .before .before .index-of .ensures, ← c .before .before .before .before .before .size .ensures .0, ← c .before .before .before .demote-any .ensures, c .before .enum-told .given .1) (c .missed .ensures .0 _ _ _),
+  nobody _ _ _ _
+      (c .before .before .before .before .before .before .index-of .ensures)
+      (c .before .before .before .before .before .size .ensures .0)
+      (c .before .before .before .demote-any .ensures)
+      (c .before .enum-told .given .1)
+      (c .missed .ensures .0 _ _ _),
   omega (arith, c .missed .ensures .1),
 )
 
@@ -69,18 +72,16 @@ same-length-4 : tie.Need-same-length-4
 same-length-4 c = c .before .before .before .before .before .before .demote-to .kept .1 .1 .1 .1 .0
 
 returns-2 : tie.Need-returns-2
-unfolding demoteLocal moveFrom onHeld onSwap withLocals
 returns-2 c = (
-  rw (
-    ← c .before .before .before .before .before .before .before .before .before .before .before .before .before .before .before .before .before .before .before .before .before .before .before .before .before .before .index-of .ensures,
-    ← c .before .before .before .before .before .before .before .before .before .before .before .before .before .before .before .before .before .before .before .before .before .before .before .before .before .size .ensures .0,
-    ← c .before .before .before .before .before .before .before .before .before .before .before .before .before .before .before .before .before .before .before .before .before .before .before .demote-any .ensures,
-    c .before .before .before .before .before .before .before .before .before .before .before .before .before .before .before .before .before .before .before .before .before .payer .given .1,
-    ← c .before .before .before .before .before .before .before .before .before .before .before .before .before .before .before .before .before .before .before .before .before .before .before .before .before .size .ensures .0,
-    ← c .before .before .before .before .before .before .before .before .before .before .before .before .before .before .before .before .before .before .take .ensures,
-    c .before .before .before .before .before .before .before .before .before .before .before .before .before .before .enum-told2 .given .1,
-    ← c .before .before .before .before .before .before .before .before .before .before .before .before .clear .ensures .0,
-  ) (c .before .before .before .before .before .before .demote-to .ensures .0),
+  moves _ _ _ _
+      (c .before .before .before .before .before .before .before .before .before .before .before .before .before .before .before .before .before .before .before .before .before .before .before .before .before .before .index-of .ensures)
+      (c .before .before .before .before .before .before .before .before .before .before .before .before .before .before .before .before .before .before .before .before .before .before .before .before .before .size .ensures .0)
+      (c .before .before .before .before .before .before .before .before .before .before .before .before .before .before .before .before .before .before .before .before .before .before .before .demote-any .ensures)
+      (c .before .before .before .before .before .before .before .before .before .before .before .before .before .before .before .before .before .before .before .before .before .payer .given .1)
+      (c .before .before .before .before .before .before .before .before .before .before .before .before .before .before .before .before .before .before .take .ensures)
+      (c .before .before .before .before .before .before .before .before .before .before .before .before .before .before .enum-told2 .given .1)
+      (c .before .before .before .before .before .before .before .before .before .before .before .before .clear .ensures .0)
+      (c .before .before .before .before .before .before .demote-to .ensures .0),
   c .before .before .before .before .before .before .demote-to .ensures .1,
 )
 
@@ -88,17 +89,15 @@ same-length-5 : tie.Need-same-length-5
 same-length-5 c = c .before .before .before .before .before .take .kept .0
 
 returns-3 : tie.Need-returns-3
-unfolding demoteLocal moveFrom onHeld onSwap withLocals
 returns-3 c = (
-  rw (
-    ← c .before .before .before .before .before .before .before .before .before .before .before .before .before .index-of .ensures,
-    ← c .before .before .before .before .before .before .before .before .before .before .before .before .size .ensures .0,
-    ← c .before .before .before .before .before .before .before .before .before .before .demote-any .ensures,
-    c .before .before .before .before .before .before .before .before .payer .given .1,
-    ← c .before .before .before .before .before .before .before .before .before .before .before .before .size .ensures .0,
-    ← c .before .before .before .before .before .take .ensures,
-    c .before .enum-told3 .given .1,
-  ) (c .missed2 .ensures .0 _ _ _),
+  few _ _ _ _
+      (c .before .before .before .before .before .before .before .before .before .before .before .before .before .index-of .ensures)
+      (c .before .before .before .before .before .before .before .before .before .before .before .before .size .ensures .0)
+      (c .before .before .before .before .before .before .before .before .before .before .demote-any .ensures)
+      (c .before .before .before .before .before .before .before .before .payer .given .1)
+      (c .before .before .before .before .before .take .ensures)
+      (c .before .enum-told3 .given .1)
+      (c .missed2 .ensures .0 _ _ _),
   omega (arith, c .missed2 .ensures .1),
 )
 
@@ -106,17 +105,15 @@ same-length-6 : tie.Need-same-length-6
 same-length-6 c = c .before .before .before .before .before .take .kept .0
 
 returns-4 : tie.Need-returns-4
-unfolding demoteLocal moveFrom onHeld onSwap withLocals
 returns-4 c = (
-  rw (
-    ← c .before .before .before .before .before .before .before .before .before .before .before .before .before .index-of .ensures,
-    ← c .before .before .before .before .before .before .before .before .before .before .before .before .size .ensures .0,
-    ← c .before .before .before .before .before .before .before .before .before .before .demote-any .ensures,
-    c .before .before .before .before .before .before .before .before .payer .given .1,
-    ← c .before .before .before .before .before .before .before .before .before .before .before .before .size .ensures .0,
-    ← c .before .before .before .before .before .take .ensures,
-    c .before .enum-told4 .given .1,
-  ) (c .missed3 .ensures .0 _ _ _),
+  absent _ _ _ _
+      (c .before .before .before .before .before .before .before .before .before .before .before .before .before .index-of .ensures)
+      (c .before .before .before .before .before .before .before .before .before .before .before .before .size .ensures .0)
+      (c .before .before .before .before .before .before .before .before .before .before .demote-any .ensures)
+      (c .before .before .before .before .before .before .before .before .payer .given .1)
+      (c .before .before .before .before .before .take .ensures)
+      (c .before .enum-told4 .given .1)
+      (c .missed3 .ensures .0 _ _ _),
   omega (arith, c .missed3 .ensures .1),
 )
 

@@ -1,12 +1,10 @@
 -- `demotes::demote_to` meets its contract. Assumes nothing.
 use mathlib.Core.Path.{_∙_}
-use Rattle.unreserves.specs.Returned.{local-returned, onReturned, unreserve-returned}
 use Rattle.ways.specs.Fits.{given-small}
-use Rattle.ways.specs.Locals.{demoteTo}
-use Rattle.ways.specs.State.{onSwap, withLocals, withTrees}
 use borrow.Author.Tests.{not-true, not-false}
 use native.Mathlib.Omega.{arith}
 use borrow.Author.Needs.{needs}
+use Rattle.demotes.specs.Moved.{displaced, displaced-stuck, own, own-stuck}
 use Rattle.demotes.proofs.demote_to.Statement.{statement}
 use Rattle.demotes.proofs.demote_to.Tie as tie
 
@@ -32,16 +30,14 @@ same-length-2 : tie.Need-same-length-2
 same-length-2 c = c .before .before .before .before .before .before .before .before .swap .kept .0
 
 returns : tie.Need-returns
-unfolding demoteTo onSwap onReturned withTrees withLocals
 returns c = (
-  rw (
-    c .before .before .before .before .before .before .before .before .before .before .before .before .local .given .1,
-    ← c .before .before .before .before .before .before .before .before .before .slot .ensures,
-    ← c .before .before .before .before .before .before .before .before .swap .ensures .0,
-    local-returned _ _ _ _ _ _,
-    ← c .before .before .before .before .unreserve-local .ensures,
-    not-true (c .before .before .before .before .unreserve-local .result) (c .before .if1 .taken),
-  ) (c .stuck .ensures .0 _ _ _),
+  displaced-stuck _ _ _ _ _
+      (c .before .before .before .before .before .before .before .before .before .before .before .before .local .given .1)
+      (c .before .before .before .before .before .before .before .before .before .slot .ensures)
+      (c .before .before .before .before .before .before .before .before .swap .ensures .0)
+      (c .before .before .before .before .unreserve-local .ensures)
+      (not-true (c .before .before .before .before .unreserve-local .result) (c .before .if1 .taken))
+      (c .stuck .ensures .0 _ _ _),
   omega (arith, c .stuck .ensures .1),
 )
 
@@ -61,14 +57,12 @@ same-length-3 : tie.Need-same-length-3
 same-length-3 c = c .before .before .before .before .unreserve .kept .1 .1 .0
 
 returns-2 : tie.Need-returns-2
-unfolding demoteTo onSwap onReturned withTrees withLocals
 returns-2 c = (
-  rw (
-    c .before .before .before .before .before .before .before .enum-told .given .1,
-    unreserve-returned _ _ _ _ _ _ _,
-    ← c .before .before .before .before .unreserve .ensures,
-    not-true (c .before .before .before .before .unreserve .result) (c .before .if2 .taken),
-  ) (c .stuck2 .ensures .0 _ _ _),
+  own-stuck _ _ _ _ _
+      (c .before .before .before .before .before .before .before .enum-told .given .1)
+      (c .before .before .before .before .unreserve .ensures)
+      (not-true (c .before .before .before .before .unreserve .result) (c .before .if2 .taken))
+      (c .stuck2 .ensures .0 _ _ _),
   omega (arith, c .stuck2 .ensures .1),
 )
 
@@ -85,17 +79,14 @@ same-length-6 : tie.Need-same-length-6
 same-length-6 c = c .before .before .before .before .ask-lower .kept .1 .1 .1 .0
 
 returns-3 : tie.Need-returns-3
-unfolding demoteTo onSwap onReturned withTrees withLocals
 returns-3 c = (
-  rw (
-    c .before .before .before .before .before .before .before .before .before .before .before .before .before .before .before .before .before .before .local .given .1,
-    ← c .before .before .before .before .before .before .before .before .before .before .before .before .before .before .before .slot .ensures,
-    ← c .before .before .before .before .before .before .before .before .before .before .before .before .before .before .swap .ensures .0,
-    local-returned _ _ _ _ _ _,
-    ← c .before .before .before .before .before .before .before .before .before .before .unreserve-local .ensures,
-    not-false (c .before .before .before .before .before .before .before .before .before .before .unreserve-local .result) (c .before .before .before .before .before .before .before .if1 .left),
-    ← c .before .before .before .before .before .before .before .before .before .before .before .before .before .before .before .before .before .before .local .given .1,
-  ) (c .before .before .before .before .ask-lower .ensures .0 _),
+  displaced _ _ _ _ _
+      (c .before .before .before .before .before .before .before .before .before .before .before .before .before .before .before .before .before .before .local .given .1)
+      (c .before .before .before .before .before .before .before .before .before .before .before .before .before .before .before .slot .ensures)
+      (c .before .before .before .before .before .before .before .before .before .before .before .before .before .before .swap .ensures .0)
+      (c .before .before .before .before .before .before .before .before .before .before .unreserve-local .ensures)
+      (not-false (c .before .before .before .before .before .before .before .before .before .before .unreserve-local .result) (c .before .before .before .before .before .before .before .if1 .left))
+      (c .before .before .before .before .ask-lower .ensures .0 _),
   c .before .before .before .before .ask-lower .ensures .1,
 )
 
@@ -106,15 +97,12 @@ same-length-8 : tie.Need-same-length-8
 same-length-8 c = c .before .before .before .before .ask-lower2 .kept .1 .1 .1 .0
 
 returns-4 : tie.Need-returns-4
-unfolding demoteTo onSwap onReturned withTrees withLocals
 returns-4 c = (
-  rw (
-    c .before .before .before .before .before .before .before .before .before .before .before .before .before .enum-told .given .1,
-    unreserve-returned _ _ _ _ _ _ _,
-    ← c .before .before .before .before .before .before .before .before .before .before .unreserve .ensures,
-    not-false (c .before .before .before .before .before .before .before .before .before .before .unreserve .result) (c .before .before .before .before .before .before .before .if2 .left),
-    ← c .before .before .before .before .before .before .before .before .before .before .before .before .before .enum-told .given .1,
-  ) (c .before .before .before .before .ask-lower2 .ensures .0 _),
+  own _ _ _ _ _
+      (c .before .before .before .before .before .before .before .before .before .before .before .before .before .enum-told .given .1)
+      (c .before .before .before .before .before .before .before .before .before .before .unreserve .ensures)
+      (not-false (c .before .before .before .before .before .before .before .before .before .before .unreserve .result) (c .before .before .before .before .before .before .before .if2 .left))
+      (c .before .before .before .before .ask-lower2 .ensures .0 _),
   c .before .before .before .before .ask-lower2 .ensures .1,
 )
 
