@@ -1,7 +1,5 @@
 -- `search::search_and_reserve` meets its contract. Assumes nothing.
-use Rattle.ends.specs.Ends.{else-ends, else-goes}
-use Rattle.search.specs.Near.{near-far}
-use Rattle.ways.specs.Search.{searchAndReserve, searchFar}
+use Rattle.search.specs.Near.{near-ends, near-goes}
 use mathlib.Core.Path.{sym, _∙_}
 use native.Mathlib.Omega.{arith}
 use borrow.Author.Needs.{needs}
@@ -30,15 +28,12 @@ same-length-3 : tie.Need-same-length-3
 same-length-3 c = c .before .before .before .before .before .before .before .before .search-near .kept .1 .1 .1 .1 .0
 
 returns : tie.Need-returns
-unfolding searchAndReserve
 returns c = (
-  rw (
-    ← c .before .before .before .before .before .before .before .before .before .before .before .before .before .tree-count .ensures .0,
-    ← c .before .before .before .before .before .before .before .before .before .before .before .before .rounded-start .ensures .0,
-    near-far _ _ _ _ _,
-    ← c .before .before .before .before .before .before .before .before .search-near .ensures .0,
-    else-ends _ _ _ (sym (c .before .ends .ensures) ∙ c .if1 .taken),
-  ),
+  near-ends _ _ _ _ _
+      (c .before .before .before .before .before .before .before .before .before .before .before .before .before .tree-count .ensures .0)
+      (c .before .before .before .before .before .before .before .before .before .before .before .before .rounded-start .ensures .0)
+      (c .before .before .before .before .before .before .before .before .search-near .ensures .0)
+      (sym (c .before .ends .ensures) ∙ c .if1 .taken),
   omega (arith, c .before .before .before .before .before .before .before .before .search-near .ensures .1),
 )
 
@@ -55,15 +50,13 @@ same-length-6 : tie.Need-same-length-6
 same-length-6 c = c .before .before .before .before .before .before .search-all .kept .1 .1 .1 .1 .0 ∙ c .before .before .before .before .before .before .before .before .before .before .before .before .before .before .before .before .before .before .search-near .kept .1 .1 .1 .1 .0
 
 returns-2 : tie.Need-returns-2
-unfolding searchAndReserve searchFar
 returns-2 c = (
-  rw (
-    ← c .before .before .before .before .before .before .before .before .before .before .before .before .before .before .before .before .before .before .before .before .before .before .before .tree-count .ensures .0,
-    ← c .before .before .before .before .before .before .before .before .before .before .before .before .before .before .before .before .before .before .before .before .before .before .rounded-start .ensures .0,
-    near-far _ _ _ _ _,
-    ← c .before .before .before .before .before .before .before .before .before .before .before .before .before .before .before .before .before .before .search-near .ensures .0,
-    else-goes _ _ _ (sym (c .before .before .before .before .before .before .before .before .before .before .before .ends .ensures) ∙ c .before .before .before .before .before .before .before .before .before .before .if1 .left),
-  ) (c .before .before .before .before .before .before .search-all .ensures .0),
+  near-goes _ _ _ _ _
+      (c .before .before .before .before .before .before .before .before .before .before .before .before .before .before .before .before .before .before .before .before .before .before .before .tree-count .ensures .0)
+      (c .before .before .before .before .before .before .before .before .before .before .before .before .before .before .before .before .before .before .before .before .before .before .rounded-start .ensures .0)
+      (c .before .before .before .before .before .before .before .before .before .before .before .before .before .before .before .before .before .before .search-near .ensures .0)
+      (sym (c .before .before .before .before .before .before .before .before .before .before .before .ends .ensures) ∙ c .before .before .before .before .before .before .before .before .before .before .if1 .left)
+      (c .before .before .before .before .before .before .search-all .ensures .0),
   omega (arith, c .before .before .before .before .before .before .search-all .ensures .1, c .before .before .before .before .before .before .before .before .before .before .before .before .before .before .before .before .before .before .search-near .ensures .1),
 )
 

@@ -1,7 +1,5 @@
 -- `search::search_near` meets its contract. Assumes nothing.
-use borrow.Author.Tests.{le-ltb, lt-ltb}
-use Rattle.rules.specs.Base.{ifte}
-use Rattle.search.specs.Near.{nearFirst}
+use Rattle.search.specs.Near.{near-empty, near-walks}
 use native.Mathlib.Omega.{arith}
 use borrow.Author.Needs.{needs}
 use Rattle.search.proofs.search_near.Statement.{statement}
@@ -11,9 +9,8 @@ missed-requires : tie.Need-missed-requires
 missed-requires c κs = search needs
 
 returns : tie.Need-returns
-unfolding nearFirst ifte
 returns c = (
-  rw (le-ltb _ _ (c .before .if1 .taken)) (c .missed .ensures .0 _ _ _),
+  near-empty _ _ _ _ _ (c .before .if1 .taken) (c .missed .ensures .0 _ _ _),
   omega (arith, c .missed .ensures .1),
 )
 
@@ -36,9 +33,12 @@ same-length-3 : tie.Need-same-length-3
 same-length-3 c = c .before .before .before .before .before .before .search-best .kept .1 .1 .1 .1 .0
 
 returns-2 : tie.Need-returns-2
-unfolding nearFirst ifte
 returns-2 c = (
-  rw (lt-ltb _ _ (c .before .before .before .before .before .before .before .before .before .before .before .before .if1 .left), ← c .before .before .before .before .before .before .before .before .before .before .before .tree-count .ensures .0, ← c .before .before .before .before .before .before .before .before .before .before .near .ensures .0) (c .before .before .before .before .before .before .search-best .ensures .0),
+  near-walks _ _ _ _ _
+      (c .before .before .before .before .before .before .before .before .before .before .before .before .if1 .left)
+      (c .before .before .before .before .before .before .before .before .before .before .before .tree-count .ensures .0)
+      (c .before .before .before .before .before .before .before .before .before .before .near .ensures .0)
+      (c .before .before .before .before .before .before .search-best .ensures .0),
   omega (arith, c .before .before .before .before .before .before .search-best .ensures .1, c .before .before .before .before .before .before .before .before .before .before .near .ensures .1),
 )
 
