@@ -1,8 +1,7 @@
 -- `holder_rules::holder_stands` meets its contract. Assumes nothing.
-use Rattle.rules.specs.Policy.{good}
-use Rattle.ways.specs.Standing.{holderStands}
-use borrow.Author.Tests.{le-leb, le-ltb, lt-leb, lt-ltb}
+use mathlib.Core.Path.{refl}
 use borrow.Author.Needs.{needs}
+use Rattle.holder_rules.specs.Holder.{counted, not-good, tree-past, unreserved}
 use Rattle.holder_rules.proofs.holder_stands.Statement.{statement}
 use Rattle.holder_rules.proofs.holder_stands.Tie as tie
 
@@ -22,47 +21,37 @@ clear-in-requires : tie.Need-clear-in-requires
 clear-in-requires c κs = search needs
 
 returns : tie.Need-returns
-unfolding holderStands good
 returns c =
-    rw (
-      ← c .before .before .before .before .before .before .before .before .tree-count .ensures .0,
-      lt-ltb _ _ (c .before .before .before .before .before .before .before .if1 .taken),
-      ← c .before .before .before .before .before .before .load .ensures .0,
-      c .before .before .before .before .before .if2 .taken,
-      ← c .before .before .before .before .kind-at .ensures,
-      le-leb _ _ (c .before .before .before .if3 .taken),
-      ← c .clear-in .ensures,
-    )
+    counted _ _ _ _ _ _
+    (c .before .before .before .before .before .before .before .before .tree-count .ensures .0)
+    (c .before .before .before .before .before .before .before .if1 .taken)
+    (c .before .before .before .before .before .before .load .ensures .0)
+    (c .before .before .before .before .before .if2 .taken)
+    (c .before .before .before .before .kind-at .ensures)
+    (c .before .before .before .if3 .taken)
+    refl
+    (c .clear-in .ensures)
 
 returns-2 : tie.Need-returns-2
-unfolding holderStands good
 returns-2 c =
-    rw (
-      ← c .before .before .before .before .before .tree-count .ensures .0,
-      lt-ltb _ _ (c .before .before .before .before .if1 .taken),
-      ← c .before .before .before .load .ensures .0,
-      c .before .before .if2 .taken,
-      ← c .before .kind-at .ensures,
-      lt-leb _ _ (c .if3 .left),
-    )
+    not-good _ _ _ _ _ _
+    (c .before .before .before .before .before .tree-count .ensures .0)
+    (c .before .before .before .before .if1 .taken)
+    (c .before .before .before .load .ensures .0)
+    (c .before .before .if2 .taken)
+    (c .before .kind-at .ensures)
+    (c .if3 .left)
 
 returns-3 : tie.Need-returns-3
-unfolding holderStands good
 returns-3 c =
-    rw (
-      ← c .before .before .before .tree-count .ensures .0,
-      lt-ltb _ _ (c .before .before .if1 .taken),
-      ← c .before .load .ensures .0,
-      c .if2 .left,
-    )
+    unreserved _ _ _ _ _ _
+    (c .before .before .before .tree-count .ensures .0)
+    (c .before .before .if1 .taken)
+    (c .before .load .ensures .0)
+    (c .if2 .left)
 
 returns-4 : tie.Need-returns-4
-unfolding holderStands good
-returns-4 c =
-    rw (
-      ← c .before .tree-count .ensures .0,
-      le-ltb _ _ (c .if1 .left),
-    )
+returns-4 c = tree-past _ _ _ _ _ _ (c .before .tree-count .ensures .0) (c .if1 .left)
 
 pub holder-stands-spec : {M : Type 1} → statement M
 holder-stands-spec =
