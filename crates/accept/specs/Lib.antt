@@ -1,0 +1,2 @@
+-- laws that the proof goes by; the definitions are in `rules`
+pub mod Accepts
