@@ -7,7 +7,7 @@ use native.Mathlib.Omega.{arith}
 use Rattle.rules.specs.Base.{both, ifte}
 use Rattle.rules.specs.Words.{Config, configured}
 use Rattle.rules.specs.Policy.{policy}
-use Rattle.rules.specs.Locals.{payerOr, payerIn}
+use Rattle.rules.specs.Locals.{mayMove, payerOr, payerIn, demoteAny}
 use Rattle.rules.specs.declared.Kind.{Kind}
 use Rattle.rules.specs.declared.Name.{Name}
 use Rattle.rules.specs.declared.Found.{Found}
@@ -37,13 +37,31 @@ class-or true ps t from Nothing y = refl
 class-or false ps t from f y = refl
 
 module _ (p : Kind → Bool) (c : Config) (ls : List ℕ) (k from : ℕ) (name : Name) (n last : ℕ) where
-  -- no class is left
-  pub payer-end : (i : ℕ) → last ≤ i → payerIn p c ls k from name n i (last - i) ≡ Payer.Nobody
-  unfolding payerIn
-  payer-end i h = let e : last - i ≡ 0 = omega arith in rw e
-
   -- one class, or else the next ones
-  pub payer-more : (i : ℕ) → i < last
+  payer-more : (i : ℕ) → i < last
       → payerIn p c ls k from name n i (last - i) ≡ orPayer (payerAt p c ls k from name n ((k + i) % 8)) (payerIn p c ls k from name n (i + 1) (last - (i + 1)))
   unfolding payerIn payerAt payerOf
   payer-more i h = let e : last - i ≡ suc (last - (i + 1)) = omega arith in rw e (class-or _ _ _ _ _ _)
+
+  -- the classes from the i-th on give the payer g
+  module _ {i : ℕ} {g : Payer} (inv : payerIn p c ls k from name n i (last - i) ≡ g) where
+    -- no class is left
+    pub payer-end : last ≤ i → Payer.Nobody ≡ g
+    unfolding payerIn
+    payer-end h = let e : last - i ≡ 0 = omega arith in rw e at inv
+
+    -- the i-th class gives x: it pays, or the next ones give g
+    module _ (h : i < last) {x : Payer} (at-i : x ≡ payerAt p c ls k from name n ((k + i) % 8)) where
+      pub pays : {t j : ℕ} → x ≡ Payer.Local t j → x ≡ g
+      unfolding orPayer
+      pays e = rw (← inv, payer-more i h, ← at-i, e)
+
+      pub passes : x ≡ Payer.Nobody → payerIn p c ls k from name n (i + 1) (last - (i + 1)) ≡ g
+      unfolding orPayer
+      passes e = rw (← inv, payer-more i h, ← at-i, e)
+
+-- a demote goes from the class after the own one on
+pub others : (c : Config) (ls : List ℕ) (k from : ℕ) (name : Name) (n i : ℕ) {x : Payer}
+    → x ≡ payerIn mayMove c ls k from name n i (8 - i) → i ≡ 1 → x ≡ demoteAny c ls k from name n
+unfolding demoteAny
+others c ls k from name n i e h = rw h at e

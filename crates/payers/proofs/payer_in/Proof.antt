@@ -5,7 +5,7 @@ use borrow.Author.Needs.{needs}
 use Rattle.rules.specs.Base.{pick}
 use Rattle.rules.specs.Words.{config}
 use Rattle.rules.specs.Locals.{mayMove, mayPay, payerIn}
-use Rattle.payers.specs.Loops.{orPayer, payer-end, payer-more}
+use Rattle.payers.specs.Loops.{passes, payer-end, pays}
 use Rattle.payers.proofs.payer_in.Statement.{statement}
 use Rattle.payers.proofs.payer_in.Tie as tie
 
@@ -30,14 +30,12 @@ enum-told : tie.Need-enum-told Inv-loop μ-loop
 enum-told c = search needs
 
 returns : tie.Need-returns Inv-loop μ-loop
-unfolding orPayer
 returns c =
-    rw (
-      ← c .before .before .before .before .loop .inv,
-      payer-more _ _ _ _ _ _ _ _ _ (c .before .before .before .loop-test .taken),
-      ← c .before .before .payer-at .ensures,
-      c .enum-told .given .1,
-    )
+    pays _ _ _ _ _ _ _ _
+    (c .before .before .before .before .loop .inv)
+    (c .before .before .before .loop-test .taken)
+    (c .before .before .payer-at .ensures)
+    (c .enum-told .given .1)
 
 enum-told-2 : tie.Need-enum-told-2 Inv-loop μ-loop
 enum-told-2 c = search needs
@@ -49,17 +47,15 @@ loop-less : tie.Need-loop-less Inv-loop μ-loop
 loop-less c = search needs
 
 loop-again : tie.Need-loop-again Inv-loop μ-loop
-unfolding orPayer
 loop-again c =
-    rw (
-      ← c .before .before .before .before .loop .inv,
-      payer-more _ _ _ _ _ _ _ _ _ (c .before .before .before .loop-test .taken),
-      ← c .before .before .payer-at .ensures,
-      c .enum-told2 .given .1,
-    )
+    passes _ _ _ _ _ _ _ _
+    (c .before .before .before .before .loop .inv)
+    (c .before .before .before .loop-test .taken)
+    (c .before .before .payer-at .ensures)
+    (c .enum-told2 .given .1)
 
 returns-2 : tie.Need-returns-2 Inv-loop μ-loop
-returns-2 c = rw (← c .before .loop .inv, payer-end _ _ _ _ _ _ _ _ _ (c .loop-test .left))
+returns-2 c = payer-end _ _ _ _ _ _ _ _ (c .before .loop .inv) (c .loop-test .left)
 
 pub payer-in-spec : {M : Type 1} → statement M
 payer-in-spec =

@@ -9,8 +9,7 @@ payer-in-requires c κs = search needs
 
 returns : tie.Need-returns
 unfolding stealAny
-returns c =
-    rw (← c .payer-in .ensures)
+returns c = c .payer-in .ensures
 
 pub steal-any-spec : {M : Type 1} → statement M
 steal-any-spec = tie.close (tie.spec payer-in-requires returns)
