@@ -34,14 +34,14 @@ module _ (c : Config) (q : Request) (name : Name) (s : State) {w : Way} where
       displaced e h = rw (given, ← place, ← swap, local-returned _ _ _ _ _ _, ← back, e) h
 
     module _ (none : g ≡ Given.Nothing) (back : out b ts ≡ returned c (l .row / treeRows (c .order)) (q .class) (l .free) (s .trees)) where
-      pub own-stuck : b ≡ false → w ≡ stuck (st ts (s .locals) (s .bits) (s .looks) (s .tries)) → w ≡ demoteTo c q name l g s
+      pub itself-stuck : b ≡ false → w ≡ stuck (st ts (s .locals) (s .bits) (s .looks) (s .tries)) → w ≡ demoteTo c q name l g s
       unfolding demoteTo onReturned withTrees
-      own-stuck e h = rw (none, unreserve-returned _ _ _ _ _ _ _, ← back, e) h
+      itself-stuck e h = rw (none, unreserve-returned _ _ _ _ _ _ _, ← back, e) h
 
-      pub own : b ≡ true → w ≡ askLower c q name (l .row / treeRows (c .order)) (l .row) (q .class) (st ts (s .locals) (s .bits) (s .looks) (s .tries))
+      pub itself : b ≡ true → w ≡ askLower c q name (l .row / treeRows (c .order)) (l .row) (q .class) (st ts (s .locals) (s .bits) (s .looks) (s .tries))
           → w ≡ demoteTo c q name l g s
       unfolding demoteTo onReturned withTrees
-      own e h = rw (none, unreserve-returned _ _ _ _ _ _ _, ← back, e) h
+      itself e h = rw (none, unreserve-returned _ _ _ _ _ _ _, ← back, e) h
 
   -- nobody moves; the first with enough, at place j, is reduced and leaves its local
   module _ {i n : ℕ} {p : Payer} (from : i ≡ indexOf (q .local)) (much : n ≡ size q) (first : p ≡ demoteAny c (s .locals) (q .class) i name n) where

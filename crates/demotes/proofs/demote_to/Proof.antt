@@ -4,7 +4,7 @@ use Rattle.ways.specs.Fits.{given-small}
 use borrow.Author.Tests.{not-true, not-false}
 use native.Mathlib.Omega.{arith}
 use borrow.Author.Needs.{needs}
-use Rattle.demotes.specs.Moved.{displaced, displaced-stuck, own, own-stuck}
+use Rattle.demotes.specs.Moved.{displaced, displaced-stuck, itself, itself-stuck}
 use Rattle.demotes.proofs.demote_to.Statement.{statement}
 use Rattle.demotes.proofs.demote_to.Tie as tie
 
@@ -58,7 +58,7 @@ same-length-3 c = c .before .before .before .before .unreserve .kept .1 .1 .0
 
 returns-2 : tie.Need-returns-2
 returns-2 c = (
-  own-stuck _ _ _ _ _
+  itself-stuck _ _ _ _ _
       (c .before .before .before .before .before .before .before .enum-told .given .1)
       (c .before .before .before .before .unreserve .ensures)
       (not-true (c .before .before .before .before .unreserve .result) (c .before .if2 .taken))
@@ -98,7 +98,7 @@ same-length-8 c = c .before .before .before .before .ask-lower2 .kept .1 .1 .1 .
 
 returns-4 : tie.Need-returns-4
 returns-4 c = (
-  own _ _ _ _ _
+  itself _ _ _ _ _
       (c .before .before .before .before .before .before .before .before .before .before .before .before .before .enum-told .given .1)
       (c .before .before .before .before .before .before .before .before .before .before .unreserve .ensures)
       (not-false (c .before .before .before .before .before .before .before .before .before .before .unreserve .result) (c .before .before .before .before .before .before .before .if2 .left))
