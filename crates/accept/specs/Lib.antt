@@ -1,2 +1,2 @@
--- laws that the proof goes by; the definitions are in `rules`
+-- laws that the proof of `accepts` goes by; the definitions are in `rules`
 pub mod Accepts

@@ -1,7 +1,7 @@
 // Sums over the entries and over the locals, by class: what the rows of the statistics are made of.
 use rules::Local;
 ghost use mathlib.Core.Path.{_≡_};
-ghost use Prim.Native.Nat.{_-_, _^_, _<_, _≤_};
+ghost use Prim.Native.Nat.{_^_, _<_, _≤_};
 ghost use Rattle.rules.specs.Base.{pick};
 ghost use Rattle.by_class.specs.Sums.{freeAt, allocAt, treeAt, heldOn, Summed};
 

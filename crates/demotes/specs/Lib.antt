@@ -1,2 +1,2 @@
 -- a reservation that moves, by the answers of its steps
-pub mod Moved
+pub mod Demoted

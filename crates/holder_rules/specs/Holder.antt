@@ -32,6 +32,6 @@ module _ (h : Header) (table ts bs : List ℕ) (k : ℕ) (l : Local) {n : ℕ} (
       not-good p = rw (← count, lt-ltb _ _ inside, ← entry, reserved, ← kind, lt-leb _ _ p)
 
       -- all of them hold, and the bits decide
-      pub counted : 2 ≤ w → {s b : ℕ} → s ≡ e .free + l .free → b ≡ clear 11 bs (l .row / 32) → eqb s b ≡ holderStands (config h table) ts bs k l
+      pub bits-decide : 2 ≤ w → {s b : ℕ} → s ≡ e .free + l .free → b ≡ clear 11 bs (l .row / 32) → eqb s b ≡ holderStands (config h table) ts bs k l
       unfolding holderStands good
-      counted p all bits = rw (← count, lt-ltb _ _ inside, ← entry, reserved, ← kind, le-leb _ _ p, ← all, ← bits)
+      bits-decide p all bits = rw (← count, lt-ltb _ _ inside, ← entry, reserved, ← kind, le-leb _ _ p, ← all, ← bits)

@@ -1,4 +1,4 @@
--- Laws of the loop over the classes in turn. Assumes nothing.
+-- Laws of the loop over the classes in turn, and where a demote begins. Assumes nothing.
 use mathlib.Core.Path.{_≡_, refl}
 use mathlib.Core.Bool.{Bool, true, false}
 use mathlib.Core.List.{List}
@@ -24,12 +24,12 @@ payerAt p c ls k from name n t =
     (λ _. Payer.Nobody)
 
 -- the first, or else the second
-unfoldable pub orPayer : Payer → Payer → Payer
+unfoldable orPayer : Payer → Payer → Payer
 orPayer (Payer.Local k j) y = Payer.Local k j
 orPayer Payer.Nobody y = y
 
 -- a class that passes pays, or else the rest
-pub class-or : (b : Bool) (ps : List ℕ) (t from : ℕ) (f : Found) (y : Payer)
+class-or : (b : Bool) (ps : List ℕ) (t from : ℕ) (f : Found) (y : Payer)
     → ifte b (λ _. payerOr ps t from f (λ _. y)) (λ _. y) ≡ orPayer (ifte b (λ _. payerOr ps t from f (λ _. Payer.Nobody)) (λ _. Payer.Nobody)) y
 unfolding ifte payerOr orPayer
 class-or true ps t from (At d) y = refl
@@ -61,7 +61,7 @@ module _ (p : Kind → Bool) (c : Config) (ls : List ℕ) (k from : ℕ) (name :
       passes e = rw (← inv, payer-more i h, ← at-i, e)
 
 -- a demote goes from the class after the own one on
-pub others : (c : Config) (ls : List ℕ) (k from : ℕ) (name : Name) (n i : ℕ) {x : Payer}
+pub from-next : (c : Config) (ls : List ℕ) (k from : ℕ) (name : Name) (n i : ℕ) {x : Payer}
     → x ≡ payerIn mayMove c ls k from name n i (8 - i) → i ≡ 1 → x ≡ demoteAny c ls k from name n
 unfolding demoteAny
-others c ls k from name n i e h = rw h at e
+from-next c ls k from name n i e h = rw h at e

@@ -4,7 +4,7 @@ use rules::Header;
 use rules::Local;
 use rules::Tree;
 use ways::Totals;
-ghost use Prim.Native.Nat.{_+_, _<_};
+ghost use Prim.Native.Nat.{_<_};
 
 // How full a tree is: `.` all free, 1 to 9 tenths held, `#` all held, `!` more free than a tree has.
 fn fill_sign(free: usize) -> u8 {

@@ -7,7 +7,7 @@ use rules::Request;
 use ways::Routed;
 ghost use mathlib.Core.Path.{_≡_};
 ghost use mathlib.Core.List.{List};
-ghost use Prim.Native.Nat.{ℕ, _+_, _-_, _*_, _^_, _<_, _≤_};
+ghost use Prim.Native.Nat.{ℕ, _+_, _*_, _^_, _<_, _≤_};
 ghost use Rattle.rules.specs.Base.{ifte};
 ghost use Rattle.rules.specs.Words.{config};
 ghost use Rattle.rules.specs.Locals.{reservation};

@@ -21,7 +21,7 @@ use Rattle.ways.specs.Locals.{takeBy, topBy, topUp, getLocal}
 use Rattle.step_laws.specs.Steps.{ifte-ind, held-ind, sync-ind, put-ind, found-ind}
 
 -- the tree at which a route was empty
-abbrev pub Small : Way → Type 0
+abbrev Small : Way → Type 0
 Small (out (Got.Done f k) s) = Unit {0}
 Small (out Got.Missed s) = Unit {0}
 Small (out (Got.MissedAt t) s) = t < 2 ^ 44
@@ -81,7 +81,7 @@ module _ (h : Header) (pairs : List ℕ) (q : Request) (name : Name) (j : ℕ) (
       (λ _ _. put-ind Small _ 11 j (row / 32) _ _ _ (λ _ _. take-small (topUp k c q name j) (top-small k) _) (λ _. r))
       (λ _. r))
 
-  pub local-small : (k : ℕ) (s : State) → Small (getLocal k c q name j s)
+  local-small : (k : ℕ) (s : State) → Small (getLocal k c q name j s)
   unfolding getLocal
   local-small k s = take-small (topUp k c q name j) (top-small k) s
 

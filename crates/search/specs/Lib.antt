@@ -1,2 +1,2 @@
--- the near walk as a route of its own
+-- the near walk as a route of its own, and the reserving search by its two routes
 pub mod Near

@@ -3,7 +3,7 @@ use commands::Command;
 use commands::Setting;
 use commands::Store;
 use rules::Header;
-ghost use Prim.Native.Nat.{_<_, _≤_};
+ghost use Prim.Native.Nat.{_≤_};
 
 // What set-up lines set, the store but its words: the header, the lengths lent (plus one; 0 is the exact one), and the tally rows lent.
 pub struct Setup {

@@ -1,2 +1,2 @@
--- a law of stores that `trees` and `local` go by
+-- a law of a store past the end, which `trees` and `local` go by
 pub mod Past

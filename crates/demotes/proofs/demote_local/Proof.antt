@@ -2,7 +2,7 @@
 use mathlib.Core.Path.{_∙_}
 use native.Mathlib.Omega.{arith}
 use borrow.Author.Needs.{needs}
-use Rattle.demotes.specs.Moved.{nobody, moves, few, absent}
+use Rattle.demotes.specs.Demoted.{nobody, leaves, few, absent}
 use Rattle.demotes.proofs.demote_local.Statement.{statement}
 use Rattle.demotes.proofs.demote_local.Tie as tie
 
@@ -73,7 +73,7 @@ same-length-4 c = c .before .before .before .before .before .before .demote-to .
 
 returns-2 : tie.Need-returns-2
 returns-2 c = (
-  moves _ _ _ _
+  leaves _ _ _ _
       (c .before .before .before .before .before .before .before .before .before .before .before .before .before .before .before .before .before .before .before .before .before .before .before .before .before .before .index-of .ensures)
       (c .before .before .before .before .before .before .before .before .before .before .before .before .before .before .before .before .before .before .before .before .before .before .before .before .before .size .ensures .0)
       (c .before .before .before .before .before .before .before .before .before .before .before .before .before .before .before .before .before .before .before .before .before .before .before .demote-any .ensures)

@@ -4,7 +4,7 @@ use Rattle.ways.specs.Fits.{given-small}
 use borrow.Author.Tests.{not-true, not-false}
 use native.Mathlib.Omega.{arith}
 use borrow.Author.Needs.{needs}
-use Rattle.demotes.specs.Moved.{displaced, displaced-stuck, itself, itself-stuck}
+use Rattle.demotes.specs.Demoted.{displaced, displaced-stuck, itself, itself-stuck}
 use Rattle.demotes.proofs.demote_to.Statement.{statement}
 use Rattle.demotes.proofs.demote_to.Tie as tie
 

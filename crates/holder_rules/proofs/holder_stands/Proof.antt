@@ -1,7 +1,7 @@
 -- `holder_rules::holder_stands` meets its contract. Assumes nothing.
 use mathlib.Core.Path.{refl}
 use borrow.Author.Needs.{needs}
-use Rattle.holder_rules.specs.Holder.{counted, not-good, tree-past, unreserved}
+use Rattle.holder_rules.specs.Holder.{bits-decide, not-good, tree-past, unreserved}
 use Rattle.holder_rules.proofs.holder_stands.Statement.{statement}
 use Rattle.holder_rules.proofs.holder_stands.Tie as tie
 
@@ -22,7 +22,7 @@ clear-in-requires c κs = search needs
 
 returns : tie.Need-returns
 returns c =
-    counted _ _ _ _ _ _
+    bits-decide _ _ _ _ _ _
     (c .before .before .before .before .before .before .before .before .tree-count .ensures .0)
     (c .before .before .before .before .before .before .before .if1 .taken)
     (c .before .before .before .before .before .before .load .ensures .0)

@@ -1,7 +1,7 @@
 -- `payers::demote_any` meets its contract. Assumes nothing.
 use mathlib.Core.Path.{refl}
 use borrow.Author.Needs.{needs}
-use Rattle.payers.specs.Loops.{others}
+use Rattle.payers.specs.Loops.{from-next}
 use Rattle.payers.proofs.demote_any.Statement.{statement}
 use Rattle.payers.proofs.demote_any.Tie as tie
 
@@ -9,7 +9,7 @@ payer-in-requires : tie.Need-payer-in-requires
 payer-in-requires c κs = search needs
 
 returns : tie.Need-returns
-returns c = others _ _ _ _ _ _ _ (c .payer-in .ensures) refl
+returns c = from-next _ _ _ _ _ _ _ (c .payer-in .ensures) refl
 
 pub demote-any-spec : {M : Type 1} → statement M
 demote-any-spec = tie.close (tie.spec payer-in-requires returns)

@@ -43,17 +43,17 @@ module _ (c : Config) (q : Request) (name : Name) (s : State) {w : Way} where
       unfolding demoteTo onReturned withTrees
       itself e h = rw (none, unreserve-returned _ _ _ _ _ _ _, ← back, e) h
 
-  -- nobody moves; the first with enough, at place j, is reduced and leaves its local
+  -- nobody moves; the first with enough, at place j, is reduced and leaves its local (too few, or none, is not reached: the definition has it)
   module _ {i n : ℕ} {p : Payer} (from : i ≡ indexOf (q .local)) (much : n ≡ size q) (first : p ≡ demoteAny c (s .locals) (q .class) i name n) where
     pub nobody : p ≡ Payer.Nobody → w ≡ missed s → w ≡ demoteLocal c q name s
     unfolding demoteLocal moveFrom
     nobody e h = rw (← from, ← much, ← first, e) h
 
     module _ {k j : ℕ} {x : Held} {ls : List ℕ} (some : p ≡ Payer.Local k j) (took : out x ls ≡ localTake (c .order) (s .locals) j name n) where
-      pub moves : {row : ℕ} {l : Local} {ls′ : List ℕ} → x ≡ Held.Row row → out l ls′ ≡ localClear ls j
+      pub leaves : {row : ℕ} {l : Local} {ls′ : List ℕ} → x ≡ Held.Row row → out l ls′ ≡ localClear ls j
           → w ≡ demoteTo c q name l (q .local) (st (s .trees) ls′ (s .bits) (s .looks) (s .tries)) → w ≡ demoteLocal c q name s
       unfolding demoteLocal moveFrom onHeld onSwap withLocals
-      moves e left h = rw (← from, ← much, ← first, some, ← much, ← took, e, ← left) h
+      leaves e left h = rw (← from, ← much, ← first, some, ← much, ← took, e, ← left) h
 
       pub few : {row free : ℕ} → x ≡ Held.Few row free → w ≡ missed (st (s .trees) ls (s .bits) (s .looks) (s .tries)) → w ≡ demoteLocal c q name s
       unfolding demoteLocal moveFrom onHeld withLocals
