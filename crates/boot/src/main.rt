@@ -10,7 +10,7 @@ use ways::Outcome;
 ghost use mathlib.Core.Path.{_≡_};
 ghost use Rattle.rules.specs.Words.{config};
 ghost use Rattle.ways.specs.Calls.{outcomeOf};
-ghost use Rattle.patterns.specs.Board.{Ready};
+ghost use Rattle.board.specs.Board.{Ready};
 
 // The figures of the store.
 fn figures<'a>(
@@ -105,31 +105,31 @@ fn boot(h: Header, table: &[u32; 64], trees: &mut [u32], locals: &mut [u64], bit
 
 // The board.
 fn boot_board() {
-    let table = patterns::table();
+    let table = board::table();
     let mut trees = [0u32; 32];
     let mut locals = [0u64; 4];
     let mut bits = [0u64; 1024];
-    let h = patterns::header(patterns::FRAMES);
+    let h = board::header(board::FRAMES);
     boot(h, &table, &mut trees, &mut locals, &mut bits);
 }
 
 // A board too small for the raster.
 fn boot_small() {
-    let table = patterns::table();
+    let table = board::table();
     let mut trees = [0u32; 1];
     let mut locals = [0u64; 4];
     let mut bits = [0u64; 32];
-    let h = patterns::header(patterns::SMALL);
+    let h = board::header(board::SMALL);
     boot(h, &table, &mut trees, &mut locals, &mut bits);
 }
 
 // The refusals, on a store of the small board.
 fn show_refusals() {
-    let table = patterns::table();
+    let table = board::table();
     let mut trees = [0u32; 1];
     let mut locals = [0u64; 4];
     let mut bits = [0u64; 32];
-    let h = patterns::header(patterns::SMALL);
+    let h = board::header(board::SMALL);
     refusals::show(h, &table, &mut trees, &mut locals, &mut bits);
 }
 

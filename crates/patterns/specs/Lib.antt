@@ -1,3 +1,2 @@
--- the board and the patterns
-pub mod Board
+-- the patterns
 pub mod Patterns

@@ -2,7 +2,7 @@
 use borrow.Author.Needs.{needs}
 use mathlib.Core.Path.{ap, _∙_}
 use Rattle.ways.specs.Calls.{Told}
-use Rattle.patterns.specs.Board.{starts}
+use Rattle.board.specs.Board.{starts}
 use Rattle.boot.proofs.start.Statement.{statement}
 use Rattle.boot.proofs.start.Tie as tie
 

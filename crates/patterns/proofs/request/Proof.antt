@@ -1,7 +1,7 @@
 -- `patterns::request` meets its contract. Assumes nothing.
 use borrow.Author.Needs.{needs}
 use native.Mathlib.Omega.{arith}
-use Rattle.patterns.specs.Board.{fits}
+use Rattle.board.specs.Board.{fits}
 use Rattle.patterns.proofs.request.Statement.{statement}
 use Rattle.patterns.proofs.request.Tie as tie
 

@@ -1,0 +1,2 @@
+-- the board, and that a start accepts it
+pub mod Board
