@@ -1,15 +1,20 @@
--- How a refusal is told, and that Done is none. Assumes nothing.
+-- How a refusal is told, that Done is none, and the three ways through the tests of a get and of a put. Assumes nothing.
 use mathlib.Core.Path.{_≡_, refl, sym, ap, _∙_}
+use mathlib.Core.Bool.{Bool, true, false}
 use Prim.Native.Nat.{ℕ}
+use Rattle.rules.specs.Base.{ifte}
+use Rattle.rules.specs.Words.{Config}
+use Rattle.rules.specs.declared.Request.{Request}
 use Rattle.ways.specs.declared.Refusal.{Refusal}
 use Rattle.ways.specs.declared.Refusal.the-variants as Refusal
 use Rattle.ways.specs.declared.Outcome.{Outcome}
 use Rattle.ways.specs.declared.Outcome.the-variants as Outcome
 use Rattle.ways.specs.State.{State}
-use Rattle.ways.specs.Calls.{Told, telling, numberOf, outcomeOf, unless}
+use Rattle.ways.specs.Standing.{standing}
+use Rattle.ways.specs.Calls.{Told, telling, numberOf, outcomeOf, refusal, unless, ifStanding}
 
 -- a refusal is told with its number, and nothing is changed
-pub refusal-told : (x : Refusal) (s : State) (next : State → Told) → unless (numberOf x) s next ≡ telling (numberOf x) 0 0 s
+refusal-told : (x : Refusal) (s : State) (next : State → Told) → unless (numberOf x) s next ≡ telling (numberOf x) 0 0 s
 unfolding unless numberOf
 refusal-told Refusal.Broken s next = refl
 refusal-told Refusal.Order s next = refl
@@ -27,3 +32,18 @@ refusal-told Refusal.Rows s next = refl
 pub done-checked : (r : Outcome) (n : ℕ) → outcomeOf r ≡ n → r ≡ Outcome.Done → n ≡ 0
 unfolding outcomeOf
 done-checked r n e d = sym e ∙ ap outcomeOf d
+
+-- the state test fails; an argument test does; both pass, and the call goes on
+module _ (c : Config) (q : Request) (f : ℕ) (s : State) (next : State → Told) {b : Bool} (tested : b ≡ standing c (s .trees) (s .locals) (s .bits)) where
+  pub state-broken : b ≡ false → telling 1 0 0 s ≡ ifStanding c s (λ s1. unless (refusal c q f) s1 next)
+  unfolding ifStanding ifte
+  state-broken e = rw (← tested, e)
+
+  module _ (stands : b ≡ true) {o : Outcome} (checked : outcomeOf o ≡ refusal c q f) where
+    pub argument-refused : {x : Refusal} → o ≡ Outcome.Refused x → telling (numberOf x) 0 0 s ≡ ifStanding c s (λ s1. unless (refusal c q f) s1 next)
+    unfolding ifStanding ifte outcomeOf
+    argument-refused e = rw (← tested, stands, ← checked, e, refusal-told _ s next)
+
+    pub goes-on : {w : Told} → o ≡ Outcome.Done → w ≡ next s → w ≡ ifStanding c s (λ s1. unless (refusal c q f) s1 next)
+    unfolding ifStanding ifte unless outcomeOf
+    goes-on e h = rw (← tested, stands, ← checked, e) h

@@ -1,11 +1,9 @@
 -- `get::get` meets its contract. Assumes nothing.
-use mathlib.Core.Path.{refl, sym, _∙_}
-use Rattle.ways.specs.Calls.{numberOf}
+use mathlib.Core.Path.{refl, sym, ap, _∙_}
 use Rattle.checks.specs.Checked.{checked-fits}
 use Rattle.step_laws.specs.Tested.{standing-accepted}
-use Rattle.checks.specs.Refusals.{done-checked, refusal-told}
-use Rattle.rules.specs.Base.{ifte}
-use Rattle.ways.specs.Calls.{get, ifStanding, unless, outcomeOf, tellGet}
+use Rattle.checks.specs.Refusals.{done-checked, state-broken, argument-refused, goes-on}
+use Rattle.ways.specs.Calls.{numberOf, tellGet, close, get}
 use borrow.Author.Needs.{needs}
 use Rattle.get.proofs.get.Statement.{statement}
 use Rattle.get.proofs.get.Tie as tie
@@ -49,17 +47,15 @@ same-length-3 : tie.Need-same-length-3
 same-length-3 c = c .before .before .before .before .before .before .before .routes .kept .1 .1 .1 .1 .0
 
 returns : tie.Need-returns
-unfolding get ifStanding ifte unless outcomeOf tellGet
+unfolding get
 returns c =
-    rw (
-      ← c .before .before .before .before .before .before .before .before .before .before .before .before .before .before .before .before .stands .ensures,
-      c .before .before .before .before .before .before .before .before .before .before .before .before .before .before .before .if1 .taken,
-      ← c .before .before .before .before .before .before .before .before .before .before .before .before .before .before .frame-of .ensures,
-      ← c .before .before .before .before .before .before .before .before .before .before .before .before .before .check .ensures,
-      c .before .before .before .before .before .before .before .before .before .before .before .enum-told .given .1,
-      ← c .before .before .before .before .before .before .before .routes .ensures,
-    )
-    (c .reply .ensures _ _ _)
+    rw (← c .before .before .before .before .before .before .before .before .before .before .before .before .before .before .frame-of .ensures)
+    (goes-on _ _ _ _ _
+    (c .before .before .before .before .before .before .before .before .before .before .before .before .before .before .before .before .stands .ensures)
+    (c .before .before .before .before .before .before .before .before .before .before .before .before .before .before .before .if1 .taken)
+    (c .before .before .before .before .before .before .before .before .before .before .before .before .before .check .ensures)
+    (c .before .before .before .before .before .before .before .before .before .before .before .enum-told .given .1)
+    (c .reply .ensures _ _ _ ∙ ap close (c .before .before .before .before .before .before .before .routes .ensures)))
 
 same-length-4 : tie.Need-same-length-4
 same-length-4 c = refl
@@ -71,17 +67,14 @@ same-length-6 : tie.Need-same-length-6
 same-length-6 c = refl
 
 returns-2 : tie.Need-returns-2
-unfolding get ifStanding ifte outcomeOf tellGet
+unfolding get tellGet
 returns-2 c =
-    rw (
-      ← c .before .before .before .before .before .before .before .stands .ensures,
-      c .before .before .before .before .before .before .if1 .taken,
-      ← c .before .before .before .before .before .frame-of .ensures,
-      ← c .before .before .before .before .check .ensures,
-      c .before .before .x .given .1,
-      refusal-told,
-      c .refused .ensures,
-    )
+    rw (← c .before .before .before .before .before .frame-of .ensures, c .refused .ensures)
+    (argument-refused _ _ _ _ _
+    (c .before .before .before .before .before .before .before .stands .ensures)
+    (c .before .before .before .before .before .before .if1 .taken)
+    (c .before .before .before .before .check .ensures)
+    (c .before .before .x .given .1))
 
 same-length-7 : tie.Need-same-length-7
 same-length-7 c = refl
@@ -93,13 +86,10 @@ same-length-9 : tie.Need-same-length-9
 same-length-9 c = refl
 
 returns-3 : tie.Need-returns-3
-unfolding get ifStanding ifte outcomeOf tellGet numberOf
+unfolding get tellGet numberOf
 returns-3 c =
-    rw (
-      ← c .before .before .stands .ensures,
-      c .before .if1 .left,
-      c .refused2 .ensures,
-    )
+    rw (c .refused2 .ensures)
+    (state-broken _ _ _ _ _ (c .before .before .stands .ensures) (c .before .if1 .left))
 
 pub get-spec : {M : Type 1} → statement M
 get-spec =

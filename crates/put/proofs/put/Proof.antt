@@ -1,11 +1,9 @@
 -- `put::put` meets its contract. Assumes nothing.
 use mathlib.Core.Path.{refl, sym, _∙_}
-use Rattle.ways.specs.Calls.{numberOf}
 use Rattle.checks.specs.Checked.{checked-fits}
 use Rattle.step_laws.specs.Tested.{standing-accepted}
-use Rattle.checks.specs.Refusals.{done-checked, refusal-told}
-use Rattle.rules.specs.Base.{ifte}
-use Rattle.ways.specs.Calls.{put, ifStanding, unless, outcomeOf}
+use Rattle.checks.specs.Refusals.{done-checked, state-broken, argument-refused, goes-on}
+use Rattle.ways.specs.Calls.{numberOf, outcomeOf, put}
 use borrow.Author.Needs.{needs}
 use Rattle.put.proofs.put.Statement.{statement}
 use Rattle.put.proofs.put.Tie as tie
@@ -37,15 +35,14 @@ same-length-3 : tie.Need-same-length-3
 same-length-3 c = c .before .before .before .before .before .before .put-body .kept .1 .1 .1 .1 .0
 
 returns : tie.Need-returns
-unfolding put ifStanding ifte unless outcomeOf
+unfolding put
 returns c =
-    rw (
-      ← c .before .before .before .before .before .before .before .before .before .before .before .before .before .before .stands .ensures,
-      c .before .before .before .before .before .before .before .before .before .before .before .before .before .if1 .taken,
-      ← c .before .before .before .before .before .before .before .before .before .before .before .before .check .ensures,
-      c .before .before .before .before .before .before .before .before .before .before .enum-told .given .1,
-      ← c .before .before .before .before .before .before .put-body .ensures,
-    )
+    goes-on _ _ _ _ _
+    (c .before .before .before .before .before .before .before .before .before .before .before .before .before .before .stands .ensures)
+    (c .before .before .before .before .before .before .before .before .before .before .before .before .before .if1 .taken)
+    (c .before .before .before .before .before .before .before .before .before .before .before .before .check .ensures)
+    (c .before .before .before .before .before .before .before .before .before .before .enum-told .given .1)
+    (c .before .before .before .before .before .before .put-body .ensures)
 
 same-length-4 : tie.Need-same-length-4
 same-length-4 c = refl
@@ -57,15 +54,13 @@ same-length-6 : tie.Need-same-length-6
 same-length-6 c = refl
 
 returns-2 : tie.Need-returns-2
-unfolding put ifStanding ifte outcomeOf
+unfolding put outcomeOf
 returns-2 c =
-    rw (
-      ← c .before .before .before .before .before .stands .ensures,
-      c .before .before .before .before .if1 .taken,
-      ← c .before .before .before .check .ensures,
-      c .before .x .given .1,
-      refusal-told,
-    )
+    argument-refused _ _ _ _ _
+    (c .before .before .before .before .before .stands .ensures)
+    (c .before .before .before .before .if1 .taken)
+    (c .before .before .before .check .ensures)
+    (c .before .x .given .1)
 
 same-length-7 : tie.Need-same-length-7
 same-length-7 c = refl
@@ -77,12 +72,8 @@ same-length-9 : tie.Need-same-length-9
 same-length-9 c = refl
 
 returns-3 : tie.Need-returns-3
-unfolding put ifStanding ifte outcomeOf numberOf
-returns-3 c =
-    rw (
-      ← c .before .stands .ensures,
-      c .if1 .left,
-    )
+unfolding put outcomeOf numberOf
+returns-3 c = state-broken _ _ _ _ _ (c .before .stands .ensures) (c .if1 .left)
 
 pub put-spec : {M : Type 1} → statement M
 put-spec =
