@@ -8,16 +8,24 @@ ghost use mathlib.Core.Path.{_≡_};
 ghost use Prim.Native.Nat.{_^_, _<_};
 ghost use Rattle.rules.specs.Words.{config};
 ghost use Rattle.rules.specs.Entries.{stealOf, reserveOf};
+ghost use Rattle.entry_takes.specs.Yield.{mayYield};
+
+// Whether an entry may yield n frames: it has no reservation, and enough free.
+fn may_yield(t: Tree, n: usize) -> bool
+    ensures { λ r. ⌜ r ≡ mayYield t n ⌝ }
+{
+    if t.reserved {
+        return false;
+    }
+    n <= t.free
+}
 
 // Steal: the entry that is left, or a refusal.
 pub fn steal(h: Header, table: &[u32; 64], t: Tree, class: usize, n: usize) -> Took
     requires { ⌜ (class < 8) × (t .class < 8) ⌝ }
     ensures { λ r. ⌜ r ≡ stealOf (config h (now (table .entry))) t class n ⌝ }
 {
-    if t.reserved {
-        return Took::No;
-    }
-    if t.free < n {
+    if !may_yield(t, n) {
         return Took::No;
     }
     match policy::ask(h, table, class, t.class, n) {
@@ -45,10 +53,7 @@ pub fn reserve_or_steal(h: Header, table: &[u32; 64], t: Tree, class: usize, n: 
     requires { ⌜ (class < 8) × ((t .class < 8) × (t .free < 2 ^ 32)) ⌝ }
     ensures { λ r. ⌜ r ≡ reserveOf (config h (now (table .entry))) t class n ⌝ }
 {
-    if t.reserved {
-        return Taken::No;
-    }
-    if t.free < n {
+    if !may_yield(t, n) {
         return Taken::No;
     }
     match policy::ask(h, table, class, t.class, n) {

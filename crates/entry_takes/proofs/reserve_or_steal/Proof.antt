@@ -1,22 +1,18 @@
 -- `entry_takes::reserve_or_steal` meets its contract. Assumes nothing.
-use Rattle.rules.specs.Entries.{reserveOf, reserveKind}
-use borrow.Author.Tests.{le-ltb, lt-ltb}
+use mathlib.Core.Path.{refl}
+use native.Mathlib.Omega.{arith}
 use borrow.Author.Needs.{needs}
+use borrow.Author.Tests.{not-true, not-false}
+use Rattle.rules.specs.Entries.{reserveKind}
+use Rattle.entry_takes.specs.Yield.{yields-enough, reserve-refused, reserve-by}
 use Rattle.entry_takes.proofs.reserve_or_steal.Statement.{statement}
 use Rattle.entry_takes.proofs.reserve_or_steal.Tie as tie
 
-returns : tie.Need-returns
-unfolding reserveOf reserveKind
-returns c =
-    rw (c .if1 .taken)
+may-yield-requires : tie.Need-may-yield-requires
+may-yield-requires c κs = search needs
 
-returns-2 : tie.Need-returns-2
-unfolding reserveOf reserveKind
-returns-2 c =
-    rw (
-      c .before .before .if1 .left,
-      lt-ltb _ _ (c .if2 .taken),
-    )
+returns : tie.Need-returns
+returns c = reserve-refused _ _ _ _ (c .before .may-yield .ensures) (not-true (c .before .may-yield .result) (c .if1 .taken))
 
 ask-requires : tie.Need-ask-requires
 ask-requires c κs = search needs
@@ -27,72 +23,78 @@ enum-told c = search needs
 enum-told-2 : tie.Need-enum-told-2
 enum-told-2 c = search needs
 
+sub-t10 : tie.Need-sub-t10
+sub-t10 c =
+    let enough = yields-enough _ _ (c .before .before .before .before .before .may-yield .ensures) (not-false (c .before .before .before .before .before .may-yield .result) (c .before .before .before .before .if1 .left)) in
+    omega arith
+
 enum-told-3 : tie.Need-enum-told-3
 enum-told-3 c = search needs
 
-cast-t12 : tie.Need-cast-t12
-cast-t12 c = search needs
+cast-t13 : tie.Need-cast-t13
+cast-t13 c = search needs
 
 enum-told-4 : tie.Need-enum-told-4
 enum-told-4 c = search needs
 
-cast-t14 : tie.Need-cast-t14
-cast-t14 c = search needs
+cast-t15 : tie.Need-cast-t15
+cast-t15 c = search needs
+
+returns-2 : tie.Need-returns-2
+unfolding reserveKind
+returns-2 c =
+    reserve-by _ _ _ _
+    (c .before .before .before .before .may-yield .ensures)
+    (not-false (c .before .before .before .before .may-yield .result) (c .before .before .before .if1 .left))
+    (c .before .before .ask .ensures)
+    (c .enum-told .given .1)
+    refl
 
 returns-3 : tie.Need-returns-3
-unfolding reserveOf reserveKind
+unfolding reserveKind
 returns-3 c =
-    rw (
-      c .before .before .before .before .before .if1 .left,
-      le-ltb _ _ (c .before .before .before .if2 .left),
-      ← c .before .before .ask .ensures,
-      c .enum-told .given .1,
-    )
+    reserve-by _ _ _ _
+    (c .before .before .before .before .before .may-yield .ensures)
+    (not-false (c .before .before .before .before .before .may-yield .result) (c .before .before .before .before .if1 .left))
+    (c .before .before .before .ask .ensures)
+    (c .before .enum-told2 .given .1)
+    refl
 
 returns-4 : tie.Need-returns-4
-unfolding reserveOf reserveKind
+unfolding reserveKind
 returns-4 c =
-    rw (
-      c .before .before .before .before .before .before .if1 .left,
-      le-ltb _ _ (c .before .before .before .before .if2 .left),
-      ← c .before .before .before .ask .ensures,
-      c .before .enum-told2 .given .1,
-    )
+    reserve-by _ _ _ _
+    (c .before .before .before .before .before .may-yield .ensures)
+    (not-false (c .before .before .before .before .before .may-yield .result) (c .before .before .before .before .if1 .left))
+    (c .before .before .before .ask .ensures)
+    (c .before .enum-told3 .given .1)
+    refl
 
 returns-5 : tie.Need-returns-5
-unfolding reserveOf reserveKind
+unfolding reserveKind
 returns-5 c =
-    rw (
-      c .before .before .before .before .before .before .if1 .left,
-      le-ltb _ _ (c .before .before .before .before .if2 .left),
-      ← c .before .before .before .ask .ensures,
-      c .before .enum-told3 .given .1,
-    )
-
-returns-6 : tie.Need-returns-6
-unfolding reserveOf reserveKind
-returns-6 c =
-    rw (
-      c .before .before .before .before .before .before .if1 .left,
-      le-ltb _ _ (c .before .before .before .before .if2 .left),
-      ← c .before .before .before .ask .ensures,
-      c .before .enum-told4 .given .1,
-    )
+    reserve-by _ _ _ _
+    (c .before .before .before .before .before .may-yield .ensures)
+    (not-false (c .before .before .before .before .before .may-yield .result) (c .before .before .before .before .if1 .left))
+    (c .before .before .before .ask .ensures)
+    (c .before .enum-told4 .given .1)
+    refl
 
 pub reserve-or-steal-spec : {M : Type 1} → statement M
 reserve-or-steal-spec =
     tie.close
     (tie.spec
+    may-yield-requires
     returns
-    returns-2
     ask-requires
     enum-told
     enum-told-2
+    sub-t10
     enum-told-3
-    cast-t12
+    cast-t13
     enum-told-4
-    cast-t14
+    cast-t15
+    returns-2
     returns-3
     returns-4
-    returns-5
-    returns-6)
+    returns-5)

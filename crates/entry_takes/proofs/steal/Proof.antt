@@ -1,22 +1,18 @@
 -- `entry_takes::steal` meets its contract. Assumes nothing.
-use Rattle.rules.specs.Entries.{stealOf, stealKind}
-use borrow.Author.Tests.{le-ltb, lt-ltb}
+use mathlib.Core.Path.{refl}
+use native.Mathlib.Omega.{arith}
 use borrow.Author.Needs.{needs}
+use borrow.Author.Tests.{not-true, not-false}
+use Rattle.rules.specs.Entries.{stealKind}
+use Rattle.entry_takes.specs.Yield.{yields-enough, steal-refused, steal-by}
 use Rattle.entry_takes.proofs.steal.Statement.{statement}
 use Rattle.entry_takes.proofs.steal.Tie as tie
 
-returns : tie.Need-returns
-unfolding stealOf stealKind
-returns c =
-    rw (c .if1 .taken)
+may-yield-requires : tie.Need-may-yield-requires
+may-yield-requires c κs = search needs
 
-returns-2 : tie.Need-returns-2
-unfolding stealOf stealKind
-returns-2 c =
-    rw (
-      c .before .before .if1 .left,
-      lt-ltb _ _ (c .if2 .taken),
-    )
+returns : tie.Need-returns
+returns c = steal-refused _ _ _ _ (c .before .may-yield .ensures) (not-true (c .before .may-yield .result) (c .if1 .taken))
 
 ask-requires : tie.Need-ask-requires
 ask-requires c κs = search needs
@@ -27,64 +23,82 @@ enum-told c = search needs
 enum-told-2 : tie.Need-enum-told-2
 enum-told-2 c = search needs
 
+sub-t10 : tie.Need-sub-t10
+sub-t10 c =
+    let enough = yields-enough _ _ (c .before .before .before .before .before .may-yield .ensures) (not-false (c .before .before .before .before .before .may-yield .result) (c .before .before .before .before .if1 .left)) in
+    omega arith
+
 enum-told-3 : tie.Need-enum-told-3
 enum-told-3 c = search needs
+
+sub-t12 : tie.Need-sub-t12
+sub-t12 c =
+    let enough = yields-enough _ _ (c .before .before .before .before .before .may-yield .ensures) (not-false (c .before .before .before .before .before .may-yield .result) (c .before .before .before .before .if1 .left)) in
+    omega arith
 
 enum-told-4 : tie.Need-enum-told-4
 enum-told-4 c = search needs
 
+sub-t14 : tie.Need-sub-t14
+sub-t14 c =
+    let enough = yields-enough _ _ (c .before .before .before .before .before .may-yield .ensures) (not-false (c .before .before .before .before .before .may-yield .result) (c .before .before .before .before .if1 .left)) in
+    omega arith
+
+returns-2 : tie.Need-returns-2
+unfolding stealKind
+returns-2 c =
+    steal-by _ _ _ _
+    (c .before .before .before .before .may-yield .ensures)
+    (not-false (c .before .before .before .before .may-yield .result) (c .before .before .before .if1 .left))
+    (c .before .before .ask .ensures)
+    (c .enum-told .given .1)
+    refl
+
 returns-3 : tie.Need-returns-3
-unfolding stealOf stealKind
+unfolding stealKind
 returns-3 c =
-    rw (
-      c .before .before .before .before .before .if1 .left,
-      le-ltb _ _ (c .before .before .before .if2 .left),
-      ← c .before .before .ask .ensures,
-      c .enum-told .given .1,
-    )
+    steal-by _ _ _ _
+    (c .before .before .before .before .before .may-yield .ensures)
+    (not-false (c .before .before .before .before .before .may-yield .result) (c .before .before .before .before .if1 .left))
+    (c .before .before .before .ask .ensures)
+    (c .before .enum-told2 .given .1)
+    refl
 
 returns-4 : tie.Need-returns-4
-unfolding stealOf stealKind
+unfolding stealKind
 returns-4 c =
-    rw (
-      c .before .before .before .before .before .before .if1 .left,
-      le-ltb _ _ (c .before .before .before .before .if2 .left),
-      ← c .before .before .before .ask .ensures,
-      c .before .enum-told2 .given .1,
-    )
+    steal-by _ _ _ _
+    (c .before .before .before .before .before .may-yield .ensures)
+    (not-false (c .before .before .before .before .before .may-yield .result) (c .before .before .before .before .if1 .left))
+    (c .before .before .before .ask .ensures)
+    (c .before .enum-told3 .given .1)
+    refl
 
 returns-5 : tie.Need-returns-5
-unfolding stealOf stealKind
+unfolding stealKind
 returns-5 c =
-    rw (
-      c .before .before .before .before .before .before .if1 .left,
-      le-ltb _ _ (c .before .before .before .before .if2 .left),
-      ← c .before .before .before .ask .ensures,
-      c .before .enum-told3 .given .1,
-    )
-
-returns-6 : tie.Need-returns-6
-unfolding stealOf stealKind
-returns-6 c =
-    rw (
-      c .before .before .before .before .before .before .if1 .left,
-      le-ltb _ _ (c .before .before .before .before .if2 .left),
-      ← c .before .before .before .ask .ensures,
-      c .before .enum-told4 .given .1,
-    )
+    steal-by _ _ _ _
+    (c .before .before .before .before .before .may-yield .ensures)
+    (not-false (c .before .before .before .before .before .may-yield .result) (c .before .before .before .before .if1 .left))
+    (c .before .before .before .ask .ensures)
+    (c .before .enum-told4 .given .1)
+    refl
 
 pub steal-spec : {M : Type 1} → statement M
 steal-spec =
     tie.close
     (tie.spec
+    may-yield-requires
     returns
-    returns-2
     ask-requires
     enum-told
     enum-told-2
+    sub-t10
     enum-told-3
+    sub-t12
     enum-told-4
+    sub-t14
+    returns-2
     returns-3
     returns-4
-    returns-5
-    returns-6)
+    returns-5)
