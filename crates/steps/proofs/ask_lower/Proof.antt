@@ -1,6 +1,6 @@
 -- `steps::ask_lower` meets its contract. Assumes nothing.
 use native.Mathlib.Omega.{arith}
-use Rattle.ways.specs.State.{askLower, onFound, putEntry, withTrees, withTry}
+use Rattle.steps.specs.LowerAsked.{lower-found, lower-refused}
 use borrow.Author.Needs.{needs}
 use Rattle.steps.proofs.ask_lower.Statement.{statement}
 use Rattle.steps.proofs.ask_lower.Tie as tie
@@ -36,13 +36,13 @@ same-length : tie.Need-same-length
 same-length c = omega (arith, c .before .before .before .before .before .before .lower-get .kept)
 
 returns : tie.Need-returns
-unfolding askLower onFound putEntry withTrees withTry
 returns c = (
-  λ l. rw (
-    ← c .before .before .before .before .before .before .lower-get .ensures,
-    c .before .before .f .given .1,
-  ) (c .done .ensures .0 _ _ _),
-  (search needs, search needs),
+  λ l.
+      lower-found _ _ _ _ _ _ _
+      (c .before .before .before .before .before .before .lower-get .ensures)
+      (c .before .before .f .given .1)
+      (c .done .ensures .0 _ _ _),
+  omega (arith, c .done .ensures .1),
 )
 
 same-length-2 : tie.Need-same-length-2
@@ -52,15 +52,15 @@ same-length-3 : tie.Need-same-length-3
 same-length-3 c = omega (arith, c .before .before .before .put .kept, c .before .before .before .before .before .before .before .before .before .before .lower-get .kept)
 
 returns-2 : tie.Need-returns-2
-unfolding askLower onFound putEntry withTrees withTry
 returns-2 c = (
-  λ l. rw (
-    ← c .before .before .before .before .before .before .before .before .before .before .lower-get .ensures,
-    c .before .before .before .before .before .before .enum-told .given .1,
-    ← c .before .before .before .before .size .ensures .0,
-    ← c .before .before .before .put .ensures,
-  ) (c .missed .ensures .0 _ _ _),
-  (search needs, search needs),
+  λ l.
+      lower-refused _ _ _ _ _ _ _
+      (c .before .before .before .before .before .before .before .before .before .before .lower-get .ensures)
+      (c .before .before .before .before .before .before .enum-told .given .1)
+      (c .before .before .before .before .size .ensures .0)
+      (c .before .before .before .put .ensures)
+      (c .missed .ensures .0 _ _ _),
+  omega (arith, c .missed .ensures .1),
 )
 
 pub ask-lower-spec : {M : Type 1} → statement M

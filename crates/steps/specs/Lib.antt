@@ -1,0 +1,2 @@
+-- the ways of the lower asked once
+pub mod LowerAsked
