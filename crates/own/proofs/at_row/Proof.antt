@@ -1,8 +1,6 @@
 -- `own::at_row` meets its contract. Assumes nothing.
 use native.Mathlib.Omega.{arith}
-use mathlib.Core.Path.{_≡_}
-use Rattle.ways.specs.State.{size, onFound, putEntry, setRow, withLocals, withTrees, withTry}
-use Rattle.own.specs.Own.{atRow}
+use Rattle.own.specs.Own.{row-found, row-refused}
 use borrow.Author.Needs.{needs}
 use Rattle.own.proofs.at_row.Statement.{statement}
 use Rattle.own.proofs.at_row.Tie as tie
@@ -44,13 +42,12 @@ same-length-2 : tie.Need-same-length-2
 same-length-2 c = omega (arith, c .before .before .before .set-start .kept, c .before .before .before .before .before .before .before .before .before .before .lower-get .kept)
 
 returns : tie.Need-returns
-unfolding atRow onFound putEntry setRow withTrees withLocals withTry
 returns c = (
-  rw (
-    ← c .before .before .before .before .before .before .before .before .before .before .lower-get .ensures,
-    c .before .before .before .before .before .before .f .given .1,
-    ← c .before .before .before .set-start .ensures,
-  ) (c .done .ensures .0 _ _ _),
+  row-found _ _ _ _ _ _
+      (c .before .before .before .before .before .before .before .before .before .before .lower-get .ensures)
+      (c .before .before .before .before .before .before .f .given .1)
+      (c .before .before .before .set-start .ensures)
+      (c .done .ensures .0 _ _ _),
   omega (arith, c .done .ensures .1),
 )
 
@@ -61,12 +58,15 @@ same-length-4 : tie.Need-same-length-4
 same-length-4 c = omega (arith, c .before .before .before .put .kept, c .before .before .before .before .before .before .before .before .before .before .lower-get .kept)
 
 returns-2 : tie.Need-returns-2
-unfolding atRow onFound putEntry setRow withTrees withLocals withTry
-returns-2 c =
-    let n : c .before .before .before .before .size .result ≡ size (c .before .before .before .before .before .before .before .before .before .before .before .before .before .before .before .args .q) = c .before .before .before .before .size .ensures .0 in (
-      rw (← c .before .before .before .before .before .before .before .before .before .before .lower-get .ensures, c .before .before .before .before .before .before .enum-told .given .1, ← n, ← c .before .before .before .put .ensures) (c .missed-at .ensures .0 _ _ _),
-      omega (arith, c .missed-at .ensures .1),
-    )
+returns-2 c = (
+  row-refused _ _ _ _ _ _
+      (c .before .before .before .before .before .before .before .before .before .before .lower-get .ensures)
+      (c .before .before .before .before .before .before .enum-told .given .1)
+      (c .before .before .before .before .size .ensures .0)
+      (c .before .before .before .put .ensures)
+      (c .missed-at .ensures .0 _ _ _),
+  omega (arith, c .missed-at .ensures .1),
+)
 
 pub at-row-spec : {M : Type 1} → statement M
 at-row-spec =
