@@ -1,7 +1,5 @@
 -- `reserves::reserved` meets its contract. Assumes nothing.
-use Rattle.unreserves.specs.Returned.{local-returned, returned-if, unreserve-returned}
-use Rattle.ways.specs.Walk.{reserved}
-use Rattle.ways.specs.State.{onFound, onSwap, withLocals, withTrees, withTry}
+use Rattle.reserves.specs.Reserved.{reserved-stored, reserved-undone}
 use native.Mathlib.Omega.{arith}
 use borrow.Author.Needs.{needs}
 use Rattle.reserves.proofs.reserved.Statement.{statement}
@@ -65,22 +63,18 @@ same-length-3 : tie.Need-same-length-3
 same-length-3 c = c .before .before .before .before .before .before .before .before .before .before .before .before .before .before .before .before .before .before .lower-get .kept .0
 
 returns : tie.Need-returns
-unfolding reserved onFound onSwap withTrees withLocals withTry
 returns c = (
-  rw (
-    ← c .before .before .before .before .before .before .before .before .before .before .before .before .before .before .before .before .before .before .lower-get .ensures,
-    c .before .before .before .before .before .before .before .before .before .before .before .before .before .before .f .given .1,
-    ← c .before .before .before .before .before .before .before .before .before .before .before .before .size .ensures .0,
-    ← c .before .before .before .before .before .before .before .before .before .before .before .less .ensures .0,
-    ← c .before .before .before .before .before .before .before .before .before .reservation .ensures,
-    ← c .before .before .before .before .before .before .before .before .swap .ensures .0,
-    local-returned _ _ _ _ _ _,
-    ← c .before .before .before .before .unreserve-local .ensures,
-    returned-if _ _ _ _ _,
-    ← c .before .done .ensures .0 _ _ _,
-    ← c .before .done .ensures .1 .0,
-    ← c .before .done .ensures .1 .1,
-  ) (c .or-stuck .ensures .0 _ _ _),
+  reserved-stored _ _ _ _ _ _
+      (c .before .before .before .before .before .before .before .before .before .before .before .before .before .before .before .before .before .before .lower-get .ensures)
+      (c .before .done .ensures .1)
+      (c .before .before .before .before .before .before .before .before .before .before .before .before .before .before .f .given .1)
+      (c .before .before .before .before .before .before .before .before .before .before .before .before .size .ensures .0)
+      (c .before .before .before .before .before .before .before .before .before .before .before .less .ensures .0)
+      (c .before .before .before .before .before .before .before .before .before .reservation .ensures)
+      (c .before .before .before .before .before .before .before .before .swap .ensures .0)
+      (c .before .before .before .before .unreserve-local .ensures)
+      (c .before .done .ensures .0 _ _ _)
+      (c .or-stuck .ensures .0 _ _ _),
   omega (arith, c .before .done .ensures .1, c .or-stuck .ensures .1),
 )
 
@@ -91,18 +85,14 @@ same-length-5 : tie.Need-same-length-5
 same-length-5 c = c .before .before .before .before .before .before .before .before .before .before .lower-get .kept .0
 
 returns-2 : tie.Need-returns-2
-unfolding reserved onFound onSwap withTrees withLocals withTry
 returns-2 c = (
-  rw (
-    ← c .before .before .before .before .before .before .before .before .before .before .lower-get .ensures,
-    c .before .before .before .before .before .before .enum-told .given .1,
-    unreserve-returned _ _ _ _ _ _ _,
-    ← c .before .before .before .before .unreserve .ensures,
-    returned-if _ _ _ _ _,
-    ← c .before .missed .ensures .0 _ _ _,
-    ← c .before .missed .ensures .1 .0,
-    ← c .before .missed .ensures .1 .1,
-  ) (c .or-stuck2 .ensures .0 _ _ _),
+  reserved-undone _ _ _ _ _ _
+      (c .before .before .before .before .before .before .before .before .before .before .lower-get .ensures)
+      (c .before .missed .ensures .1)
+      (c .before .before .before .before .before .before .enum-told .given .1)
+      (c .before .before .before .before .unreserve .ensures)
+      (c .before .missed .ensures .0 _ _ _)
+      (c .or-stuck2 .ensures .0 _ _ _),
   omega (arith, c .before .missed .ensures .1, c .or-stuck2 .ensures .1),
 )
 

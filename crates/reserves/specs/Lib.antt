@@ -1,0 +1,2 @@
+-- the ways of a tree that was reserved
+pub mod Reserved
