@@ -1,8 +1,6 @@
 -- `steal::reserve_or_steal` meets its contract. Assumes nothing.
-use mathlib.Core.Path.{_≡_, _∙_}
-use Prim.Native.Nat.{_*_, _/_}
-use Rattle.ways.specs.State.{onTaken, withTrees}
-use Rattle.ways.specs.Walk.{reserveOrSteal}
+use mathlib.Core.Path.{_∙_}
+use Rattle.steal.specs.Stolen.{reserve-none, reserve-part, reserve-whole}
 use native.Mathlib.Omega.{arith}
 use borrow.Author.Needs.{needs}
 use Rattle.steal.proofs.reserve_or_steal.Statement.{statement}
@@ -39,10 +37,13 @@ same-length : tie.Need-same-length
 same-length c = c .before .before .before .before .before .reserve-or-steal .kept .1 .1 .0
 
 returns : tie.Need-returns
-unfolding reserveOrSteal onTaken withTrees
 returns c = (
-  rw (← c .before .before .before .before .before .before .size .ensures .0, ← c .before .before .before .before .before .reserve-or-steal .ensures, c .before .enum-told .given .1) (c .missed .ensures .0 _ _ _),
-  (search needs, search needs),
+  reserve-none _ _ _ _ _
+      (c .before .before .before .before .before .before .size .ensures .0)
+      (c .before .before .before .before .before .reserve-or-steal .ensures)
+      (c .before .enum-told .given .1)
+      (c .missed .ensures .0 _ _ _),
+  omega (arith, c .missed .ensures .1),
 )
 
 same-length-2 : tie.Need-same-length-2
@@ -52,13 +53,15 @@ same-length-3 : tie.Need-same-length-3
 same-length-3 c = c .before .before .before .before .ask-lower .kept .1 .1 .1 .0
 
 returns-2 : tie.Need-returns-2
-unfolding reserveOrSteal onTaken withTrees
-returns-2 c =
-    let e : c .before .before .before .before .before .before .before .before .before .before .before .before .before .before .before .before .before .before .args .t * 32 / 32 ≡ c .before .before .before .before .before .before .before .before .before .before .before .before .before .before .before .before .before .before .args .t = omega arith in (
-      rw (← c .before .before .before .before .before .before .before .before .before .before .before .before .before .size .ensures .0, ← c .before .before .before .before .before .before .before .before .before .before .before .before .reserve-or-steal .ensures, c .before .before .before .before .before .before .before .before .e .given .1)
-          (rw e at (c .before .before .before .before .ask-lower .ensures .0 (c .before .before .before .before .before .before .before .before .before .before .before .before .before .before .before .before .before .before .args .locals .now))),
-      c .before .before .before .before .ask-lower .ensures .1,
-    )
+returns-2 c = (
+  reserve-part _ _ _ _ _
+      (c .before .before .before .before .before .before .before .before .before .before .before .before .before .size .ensures .0)
+      (c .before .before .before .before .before .before .before .before .before .before .before .before .reserve-or-steal .ensures)
+      (c .before .before .before .before .before .before .before .before .e .given .1)
+      (c .before .before .before .before .ask-lower .ensures .0 _)
+      (omega arith),
+  c .before .before .before .before .ask-lower .ensures .1,
+)
 
 same-length-4 : tie.Need-same-length-4
 same-length-4 c = c .before .before .before .before .before .before .reserved .kept .1 .1 .0 ∙ c .before .before .before .before .before .before .before .before .before .before .before .before .before .before .before .reserve-or-steal .kept .1 .1 .0
@@ -70,9 +73,12 @@ same-length-6 : tie.Need-same-length-6
 same-length-6 c = c .before .before .before .before .before .before .reserved .kept .1 .1 .1 .1 .0
 
 returns-3 : tie.Need-returns-3
-unfolding reserveOrSteal onTaken withTrees
 returns-3 c = (
-  rw (← c .before .before .before .before .before .before .before .before .before .before .before .before .before .before .before .before .size .ensures .0, ← c .before .before .before .before .before .before .before .before .before .before .before .before .before .before .before .reserve-or-steal .ensures, c .before .before .before .before .before .before .before .before .before .before .before .e2 .given .1) (c .before .before .before .before .before .before .reserved .ensures .0),
+  reserve-whole _ _ _ _ _
+      (c .before .before .before .before .before .before .before .before .before .before .before .before .before .before .before .before .size .ensures .0)
+      (c .before .before .before .before .before .before .before .before .before .before .before .before .before .before .before .reserve-or-steal .ensures)
+      (c .before .before .before .before .before .before .before .before .before .before .before .e2 .given .1)
+      (c .before .before .before .before .before .before .reserved .ensures .0),
   c .before .before .before .before .before .before .reserved .ensures .1,
 )
 

@@ -1,8 +1,6 @@
 -- `steal::steal_global` meets its contract. Assumes nothing.
-use mathlib.Core.Path.{_≡_, _∙_}
-use Prim.Native.Nat.{_*_, _/_}
-use Rattle.ways.specs.State.{onTook, withTrees}
-use Rattle.ways.specs.Walk.{stealGlobal}
+use mathlib.Core.Path.{_∙_}
+use Rattle.steal.specs.Stolen.{steal-none, steal-asks}
 use native.Mathlib.Omega.{arith}
 use borrow.Author.Needs.{needs}
 use Rattle.steal.proofs.steal_global.Statement.{statement}
@@ -33,10 +31,13 @@ same-length : tie.Need-same-length
 same-length c = c .before .before .before .before .before .steal .kept .1 .1 .0
 
 returns : tie.Need-returns
-unfolding stealGlobal onTook withTrees
 returns c = (
-  rw (← c .before .before .before .before .before .before .size .ensures .0, ← c .before .before .before .before .before .steal .ensures, c .before .enum-told .given .1) (c .missed .ensures .0 _ _ _),
-  (search needs, search needs),
+  steal-none _ _ _ _ _
+      (c .before .before .before .before .before .before .size .ensures .0)
+      (c .before .before .before .before .before .steal .ensures)
+      (c .before .enum-told .given .1)
+      (c .missed .ensures .0 _ _ _),
+  omega (arith, c .missed .ensures .1),
 )
 
 same-length-2 : tie.Need-same-length-2
@@ -46,13 +47,15 @@ same-length-3 : tie.Need-same-length-3
 same-length-3 c = c .before .before .before .before .ask-lower .kept .1 .1 .1 .0
 
 returns-2 : tie.Need-returns-2
-unfolding stealGlobal onTook withTrees
-returns-2 c =
-    let e : c .before .before .before .before .before .before .before .before .before .before .before .before .before .before .before .before .before .before .args .t * 32 / 32 ≡ c .before .before .before .before .before .before .before .before .before .before .before .before .before .before .before .before .before .before .args .t = omega arith in (
-      rw (← c .before .before .before .before .before .before .before .before .before .before .before .before .before .size .ensures .0, ← c .before .before .before .before .before .before .before .before .before .before .before .before .steal .ensures, c .before .before .before .before .before .before .before .before .e .given .1)
-          (rw e at (c .before .before .before .before .ask-lower .ensures .0 (c .before .before .before .before .before .before .before .before .before .before .before .before .before .before .before .before .before .before .args .locals .now))),
-      c .before .before .before .before .ask-lower .ensures .1,
-    )
+returns-2 c = (
+  steal-asks _ _ _ _ _
+      (c .before .before .before .before .before .before .before .before .before .before .before .before .before .size .ensures .0)
+      (c .before .before .before .before .before .before .before .before .before .before .before .before .steal .ensures)
+      (c .before .before .before .before .before .before .before .before .e .given .1)
+      (c .before .before .before .before .ask-lower .ensures .0 _)
+      (omega arith),
+  c .before .before .before .before .ask-lower .ensures .1,
+)
 
 pub steal-global-spec : {M : Type 1} → statement M
 steal-global-spec =

@@ -1,0 +1,2 @@
+-- the ways of frames of one tree
+pub mod Stolen
