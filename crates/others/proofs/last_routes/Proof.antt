@@ -1,6 +1,5 @@
 -- `others::last_routes` meets its contract. Assumes nothing.
-use Rattle.ends.specs.Ends.{else-ends, else-goes}
-use Rattle.ways.specs.Get.{lastRoutes}
+use Rattle.others.specs.Paid.{last-ends, last-goes}
 use mathlib.Core.Path.{sym, _∙_}
 use native.Mathlib.Omega.{arith}
 use borrow.Author.Needs.{needs}
@@ -23,9 +22,10 @@ same-length-3 : tie.Need-same-length-3
 same-length-3 c = c .before .before .before .before .before .before .before .before .steal-local .kept .1 .1 .1 .1 .0
 
 returns : tie.Need-returns
-unfolding lastRoutes
 returns c = (
-  rw (← c .before .before .before .before .before .before .before .before .steal-local .ensures .0, else-ends _ _ _ (sym (c .before .ends .ensures) ∙ c .if1 .taken)),
+  last-ends _ _ _ _
+      (c .before .before .before .before .before .before .before .before .steal-local .ensures .0)
+      (sym (c .before .ends .ensures) ∙ c .if1 .taken),
   omega (arith, c .before .before .before .before .before .before .before .before .steal-local .ensures .1),
 )
 
@@ -42,9 +42,11 @@ same-length-6 : tie.Need-same-length-6
 same-length-6 c = c .before .before .before .before .before .before .demote-local .kept .1 .1 .1 .1 .0 ∙ c .before .before .before .before .before .before .before .before .before .before .before .before .before .before .before .before .before .before .steal-local .kept .1 .1 .1 .1 .0
 
 returns-2 : tie.Need-returns-2
-unfolding lastRoutes
 returns-2 c = (
-  rw (← c .before .before .before .before .before .before .before .before .before .before .before .before .before .before .before .before .before .before .steal-local .ensures .0, else-goes _ _ _ (sym (c .before .before .before .before .before .before .before .before .before .before .before .ends .ensures) ∙ c .before .before .before .before .before .before .before .before .before .before .if1 .left)) (c .before .before .before .before .before .before .demote-local .ensures .0),
+  last-goes _ _ _ _
+      (c .before .before .before .before .before .before .before .before .before .before .before .before .before .before .before .before .before .before .steal-local .ensures .0)
+      (sym (c .before .before .before .before .before .before .before .before .before .before .before .ends .ensures) ∙ c .before .before .before .before .before .before .before .before .before .before .if1 .left)
+      (c .before .before .before .before .before .before .demote-local .ensures .0),
   omega (arith, c .before .before .before .before .before .before .demote-local .ensures .1, c .before .before .before .before .before .before .before .before .before .before .before .before .before .before .before .before .before .before .steal-local .ensures .1),
 )
 

@@ -1,6 +1,6 @@
 -- `others::steal_local` meets its contract. Assumes nothing.
-use Rattle.ways.specs.Locals.{stealLocal, payFrom}
-use Rattle.ways.specs.State.{onHeld, withLocals}
+use Rattle.others.specs.Paid.{pay-nobody, pay-row, pay-few, pay-absent}
+use mathlib.Core.Path.{refl}
 use native.Mathlib.Omega.{arith}
 use borrow.Author.Needs.{needs}
 use Rattle.others.proofs.steal_local.Statement.{statement}
@@ -28,9 +28,13 @@ same-length : tie.Need-same-length
 same-length c = search needs
 
 returns : tie.Need-returns
-unfolding stealLocal payFrom onHeld withLocals
 returns c = (
-  rw (← c .before .before .before .before .before .before .index-of .ensures, ← c .before .before .before .before .before .size .ensures .0, ← c .before .before .before .steal-any .ensures, c .before .enum-told .given .1) (c .missed .ensures .0 _ _ _),
+  pay-nobody _ _ _ _
+      (c .before .before .before .before .before .before .index-of .ensures)
+      (c .before .before .before .before .before .size .ensures .0)
+      (c .before .before .before .steal-any .ensures)
+      (c .before .enum-told .given .1)
+      (c .missed .ensures .0 _ _ _),
   omega (arith, c .missed .ensures .1),
 )
 
@@ -65,17 +69,16 @@ same-length-4 : tie.Need-same-length-4
 same-length-4 c = c .before .before .before .before .ask-lower .kept .1 .1 .1 .0
 
 returns-2 : tie.Need-returns-2
-unfolding stealLocal payFrom onHeld withLocals
 returns-2 c = (
-  rw (
-    ← c .before .before .before .before .before .before .before .before .before .before .before .before .before .before .before .before .before .before .before .before .index-of .ensures,
-    ← c .before .before .before .before .before .before .before .before .before .before .before .before .before .before .before .before .before .before .before .size .ensures .0,
-    ← c .before .before .before .before .before .before .before .before .before .before .before .before .before .before .before .before .before .steal-any .ensures,
-    c .before .before .before .before .before .before .before .before .before .before .before .before .before .before .before .payer .given .1,
-    ← c .before .before .before .before .before .before .before .before .before .before .before .before .before .before .before .before .before .before .before .size .ensures .0,
-    ← c .before .before .before .before .before .before .before .before .before .before .before .before .take .ensures,
-    c .before .before .before .before .before .before .before .before .row .given .1,
-  ) (c .before .before .before .before .ask-lower .ensures .0 _),
+  pay-row _ _ _ _
+      (c .before .before .before .before .before .before .before .before .before .before .before .before .before .before .before .before .before .before .before .before .index-of .ensures)
+      (c .before .before .before .before .before .before .before .before .before .before .before .before .before .before .before .before .before .before .before .size .ensures .0)
+      (c .before .before .before .before .before .before .before .before .before .before .before .before .before .before .before .before .before .steal-any .ensures)
+      (c .before .before .before .before .before .before .before .before .before .before .before .before .before .before .before .payer .given .1)
+      (c .before .before .before .before .before .before .before .before .before .before .before .before .take .ensures)
+      (c .before .before .before .before .before .before .before .before .row .given .1)
+      (c .before .before .before .before .ask-lower .ensures .0 _)
+      refl,
   c .before .before .before .before .ask-lower .ensures .1,
 )
 
@@ -83,17 +86,15 @@ same-length-5 : tie.Need-same-length-5
 same-length-5 c = c .before .before .before .before .before .take .kept .0
 
 returns-3 : tie.Need-returns-3
-unfolding stealLocal payFrom onHeld withLocals
 returns-3 c = (
-  rw (
-    ← c .before .before .before .before .before .before .before .before .before .before .before .before .before .index-of .ensures,
-    ← c .before .before .before .before .before .before .before .before .before .before .before .before .size .ensures .0,
-    ← c .before .before .before .before .before .before .before .before .before .before .steal-any .ensures,
-    c .before .before .before .before .before .before .before .before .payer .given .1,
-    ← c .before .before .before .before .before .before .before .before .before .before .before .before .size .ensures .0,
-    ← c .before .before .before .before .before .take .ensures,
-    c .before .enum-told2 .given .1,
-  ) (c .missed2 .ensures .0 _ _ _),
+  pay-few _ _ _ _
+      (c .before .before .before .before .before .before .before .before .before .before .before .before .before .index-of .ensures)
+      (c .before .before .before .before .before .before .before .before .before .before .before .before .size .ensures .0)
+      (c .before .before .before .before .before .before .before .before .before .before .steal-any .ensures)
+      (c .before .before .before .before .before .before .before .before .payer .given .1)
+      (c .before .before .before .before .before .take .ensures)
+      (c .before .enum-told2 .given .1)
+      (c .missed2 .ensures .0 _ _ _),
   omega (arith, c .missed2 .ensures .1),
 )
 
@@ -101,17 +102,15 @@ same-length-6 : tie.Need-same-length-6
 same-length-6 c = c .before .before .before .before .before .take .kept .0
 
 returns-4 : tie.Need-returns-4
-unfolding stealLocal payFrom onHeld withLocals
 returns-4 c = (
-  rw (
-    ← c .before .before .before .before .before .before .before .before .before .before .before .before .before .index-of .ensures,
-    ← c .before .before .before .before .before .before .before .before .before .before .before .before .size .ensures .0,
-    ← c .before .before .before .before .before .before .before .before .before .before .steal-any .ensures,
-    c .before .before .before .before .before .before .before .before .payer .given .1,
-    ← c .before .before .before .before .before .before .before .before .before .before .before .before .size .ensures .0,
-    ← c .before .before .before .before .before .take .ensures,
-    c .before .enum-told3 .given .1,
-  ) (c .missed3 .ensures .0 _ _ _),
+  pay-absent _ _ _ _
+      (c .before .before .before .before .before .before .before .before .before .before .before .before .before .index-of .ensures)
+      (c .before .before .before .before .before .before .before .before .before .before .before .before .size .ensures .0)
+      (c .before .before .before .before .before .before .before .before .before .before .steal-any .ensures)
+      (c .before .before .before .before .before .before .before .before .payer .given .1)
+      (c .before .before .before .before .before .take .ensures)
+      (c .before .enum-told3 .given .1)
+      (c .missed3 .ensures .0 _ _ _),
   omega (arith, c .missed3 .ensures .1),
 )
 
