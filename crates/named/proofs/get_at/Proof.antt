@@ -1,7 +1,6 @@
 -- `named::get_at` meets its contract. Assumes nothing.
-use Rattle.ends.specs.Ends.{else-ends, else-goes}
-use Rattle.ways.specs.Get.{getAt}
-use mathlib.Core.Path.{sym, _∙_}
+use Rattle.named.specs.Named.{at-own, at-tree, at-last}
+use mathlib.Core.Path.{refl, sym, _∙_}
 use native.Mathlib.Omega.{arith}
 use borrow.Author.Needs.{needs}
 use Rattle.named.proofs.get_at.Statement.{statement}
@@ -23,9 +22,10 @@ same-length-3 : tie.Need-same-length-3
 same-length-3 c = c .before .before .before .before .before .before .before .before .own-local .kept .1 .1 .1 .1 .0
 
 returns : tie.Need-returns
-unfolding getAt
 returns c = (
-  rw (← c .before .before .before .before .before .before .before .before .own-local .ensures .0, else-ends _ _ _ (sym (c .before .ends .ensures) ∙ c .if1 .taken)),
+  at-own _ _ _ _
+      (c .before .before .before .before .before .before .before .before .own-local .ensures .0)
+      (sym (c .before .ends .ensures) ∙ c .if1 .taken),
   omega (arith, c .before .before .before .before .before .before .before .before .own-local .ensures .1),
 )
 
@@ -45,14 +45,13 @@ same-length-6 : tie.Need-same-length-6
 same-length-6 c = c .before .before .before .before .before .before .before .before .steal-global .kept .1 .1 .1 .1 .0 ∙ c .before .before .before .before .before .before .before .before .before .before .before .before .before .before .before .before .before .before .before .before .own-local .kept .1 .1 .1 .1 .0
 
 returns-2 : tie.Need-returns-2
-unfolding getAt
 returns-2 c = (
-  rw (
-    ← c .before .before .before .before .before .before .before .before .before .before .before .before .before .before .before .before .before .before .before .before .own-local .ensures .0,
-    else-goes _ _ _ (sym (c .before .before .before .before .before .before .before .before .before .before .before .before .before .ends .ensures) ∙ c .before .before .before .before .before .before .before .before .before .before .before .before .if1 .left),
-    ← c .before .before .before .before .before .before .before .before .steal-global .ensures .0,
-    else-ends _ _ _ (sym (c .before .ends2 .ensures) ∙ c .if2 .taken),
-  ),
+  at-tree _ _ _ _
+      (c .before .before .before .before .before .before .before .before .before .before .before .before .before .before .before .before .before .before .before .before .own-local .ensures .0)
+      (sym (c .before .before .before .before .before .before .before .before .before .before .before .before .before .ends .ensures) ∙ c .before .before .before .before .before .before .before .before .before .before .before .before .if1 .left)
+      (c .before .before .before .before .before .before .before .before .steal-global .ensures .0)
+      refl
+      (sym (c .before .ends2 .ensures) ∙ c .if2 .taken),
   omega (arith, c .before .before .before .before .before .before .before .before .before .before .before .before .before .before .before .before .before .before .before .before .own-local .ensures .1, c .before .before .before .before .before .before .before .before .steal-global .ensures .1),
 )
 
@@ -69,14 +68,14 @@ same-length-9 : tie.Need-same-length-9
 same-length-9 c = c .before .before .before .before .before .before .last-routes .kept .1 .1 .1 .1 .0 ∙ c .before .before .before .before .before .before .before .before .before .before .before .before .before .before .before .before .before .before .steal-global .kept .1 .1 .1 .1 .0 ∙ c .before .before .before .before .before .before .before .before .before .before .before .before .before .before .before .before .before .before .before .before .before .before .before .before .before .before .before .before .before .before .own-local .kept .1 .1 .1 .1 .0
 
 returns-3 : tie.Need-returns-3
-unfolding getAt
 returns-3 c = (
-  rw (
-    ← c .before .before .before .before .before .before .before .before .before .before .before .before .before .before .before .before .before .before .before .before .before .before .before .before .before .before .before .before .before .before .own-local .ensures .0,
-    else-goes _ _ _ (sym (c .before .before .before .before .before .before .before .before .before .before .before .before .before .before .before .before .before .before .before .before .before .before .before .ends .ensures) ∙ c .before .before .before .before .before .before .before .before .before .before .before .before .before .before .before .before .before .before .before .before .before .before .if1 .left),
-    ← c .before .before .before .before .before .before .before .before .before .before .before .before .before .before .before .before .before .before .steal-global .ensures .0,
-    else-goes _ _ _ (sym (c .before .before .before .before .before .before .before .before .before .before .before .ends2 .ensures) ∙ c .before .before .before .before .before .before .before .before .before .before .if2 .left),
-  ) (c .before .before .before .before .before .before .last-routes .ensures .0),
+  at-last _ _ _ _
+      (c .before .before .before .before .before .before .before .before .before .before .before .before .before .before .before .before .before .before .before .before .before .before .before .before .before .before .before .before .before .before .own-local .ensures .0)
+      (sym (c .before .before .before .before .before .before .before .before .before .before .before .before .before .before .before .before .before .before .before .before .before .before .before .ends .ensures) ∙ c .before .before .before .before .before .before .before .before .before .before .before .before .before .before .before .before .before .before .before .before .before .before .if1 .left)
+      (c .before .before .before .before .before .before .before .before .before .before .before .before .before .before .before .before .before .before .steal-global .ensures .0)
+      refl
+      (sym (c .before .before .before .before .before .before .before .before .before .before .before .ends2 .ensures) ∙ c .before .before .before .before .before .before .before .before .before .before .if2 .left)
+      (c .before .before .before .before .before .before .last-routes .ensures .0),
   omega (arith, c .before .before .before .before .before .before .before .before .before .before .before .before .before .before .before .before .before .before .before .before .before .before .before .before .before .before .before .before .before .before .own-local .ensures .1, c .before .before .before .before .before .before .before .before .before .before .before .before .before .before .before .before .before .before .steal-global .ensures .1, c .before .before .before .before .before .before .last-routes .ensures .1),
 )
 
