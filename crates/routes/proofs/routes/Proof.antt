@@ -1,6 +1,6 @@
 -- `routes::routes` meets its contract. Assumes nothing.
-use Rattle.ends.specs.Ends.{else-ends, else-goes}
-use Rattle.ways.specs.Get.{getAny, routes}
+use Rattle.routes.specs.Asked.{asked-ends, asked-last}
+use Rattle.ways.specs.Get.{routes}
 use mathlib.Core.Path.{sym, _∙_}
 use native.Mathlib.Omega.{arith}
 use borrow.Author.Needs.{needs}
@@ -45,12 +45,11 @@ same-length-6 : tie.Need-same-length-6
 same-length-6 c = c .before .before .before .before .before .before .before .before .search-trees .kept .1 .1 .1 .1 .0
 
 returns-2 : tie.Need-returns-2
-unfolding routes getAny
-returns-2 c = rw (
-  c .before .before .before .before .before .before .before .before .before .before .before .before .enum-told .given .1,
-  ← c .before .before .before .before .before .before .before .before .search-trees .ensures .0,
-  else-ends _ _ _ (sym (c .before .ends .ensures) ∙ c .if1 .taken),
-)
+returns-2 c =
+    asked-ends _ _ _ _
+    (c .before .before .before .before .before .before .before .before .before .before .before .before .enum-told .given .1)
+    (c .before .before .before .before .before .before .before .before .search-trees .ensures .0)
+    (sym (c .before .ends .ensures) ∙ c .if1 .taken)
 
 last-routes-requires : tie.Need-last-routes-requires
 last-routes-requires c κs = (c .before .before .before .before .before .before .before .before .before .before .before .before .before .before .before .before .before .before .before .before .pre, omega (arith, c .before .before .before .before .before .before .before .before .before .before .before .search-trees .ensures .1))
@@ -65,13 +64,12 @@ same-length-9 : tie.Need-same-length-9
 same-length-9 c = c .before .before .before .before .before .before .last-routes .kept .1 .1 .1 .1 .0 ∙ c .before .before .before .before .before .before .before .before .before .before .before .before .before .before .before .before .before .before .search-trees .kept .1 .1 .1 .1 .0
 
 returns-3 : tie.Need-returns-3
-unfolding routes getAny
-returns-3 c = rw (
-  c .before .before .before .before .before .before .before .before .before .before .before .before .before .before .before .before .before .before .before .before .before .before .enum-told .given .1,
-  ← c .before .before .before .before .before .before .before .before .before .before .before .before .before .before .before .before .before .before .search-trees .ensures .0,
-  else-goes _ _ _ (sym (c .before .before .before .before .before .before .before .before .before .before .before .ends .ensures) ∙ c .before .before .before .before .before .before .before .before .before .before .if1 .left),
-  ← c .before .before .before .before .before .before .before .before .before .before .before .before .before .before .before .before .before .before .before .before .before .before .enum-told .given .1,
-) (c .before .before .before .before .before .before .last-routes .ensures .0)
+returns-3 c =
+    asked-last _ _ _ _
+    (c .before .before .before .before .before .before .before .before .before .before .before .before .before .before .before .before .before .before .before .before .before .before .enum-told .given .1)
+    (c .before .before .before .before .before .before .before .before .before .before .before .before .before .before .before .before .before .before .search-trees .ensures .0)
+    (sym (c .before .before .before .before .before .before .before .before .before .before .before .ends .ensures) ∙ c .before .before .before .before .before .before .before .before .before .before .if1 .left)
+    (c .before .before .before .before .before .before .last-routes .ensures .0)
 
 pub routes-spec : {M : Type 1} → statement M
 routes-spec =

@@ -1,9 +1,7 @@
 -- `routes::search_trees` meets its contract. Assumes nothing.
 use mathlib.Core.Path.{sym, _∙_}
-use Rattle.rules.specs.Base.{ifte}
-use Rattle.ways.specs.Get.{getReserving}
-use Rattle.routes.specs.Start.{from-ends, from-goes, start-small}
-use Rattle.routes.specs.Turn.{trees-turn}
+use Rattle.routes.specs.Asked.{turn-steals, turn-own, turn-reserves}
+use Rattle.routes.specs.Start.{start-small}
 use borrow.Author.Tests.{not-true, not-false}
 use native.Mathlib.Omega.{arith}
 use borrow.Author.Needs.{needs}
@@ -32,15 +30,13 @@ same-length-3 : tie.Need-same-length-3
 same-length-3 c = c .before .before .before .before .before .before .search-and-steal .kept .1 .1 .1 .1 .0
 
 returns : tie.Need-returns
-unfolding ifte
 returns c = (
-  rw (
-    trees-turn _ _ _ _,
-    ← c .before .before .before .before .before .before .before .before .before .before .before .is-reserving .ensures,
-    not-true (c .before .before .before .before .before .before .before .before .before .before .before .is-reserving .result) (c .before .before .before .before .before .before .before .before .before .before .if1 .taken),
-    ← c .before .before .before .before .before .before .before .before .before .before .before .before .before .index-of .ensures,
-    ← c .before .before .before .before .before .before .before .before .before .before .before .before .start-tree .ensures .0,
-  ) (c .before .before .before .before .before .before .search-and-steal .ensures .0),
+  turn-steals _ _ _ _
+      (c .before .before .before .before .before .before .before .before .before .before .before .before .before .index-of .ensures)
+      (c .before .before .before .before .before .before .before .before .before .before .before .before .start-tree .ensures .0)
+      (c .before .before .before .before .before .before .before .before .before .before .before .is-reserving .ensures)
+      (not-true (c .before .before .before .before .before .before .before .before .before .before .before .is-reserving .result) (c .before .before .before .before .before .before .before .before .before .before .if1 .taken))
+      (c .before .before .before .before .before .before .search-and-steal .ensures .0),
   omega (arith, c .before .before .before .before .before .before .search-and-steal .ensures .1),
 )
 
@@ -63,17 +59,15 @@ same-length-6 : tie.Need-same-length-6
 same-length-6 c = c .before .before .before .before .before .before .before .before .get-local .kept .1 .1 .1 .1 .0
 
 returns-2 : tie.Need-returns-2
-unfolding ifte getReserving
 returns-2 c = (
-  rw (
-    trees-turn _ _ _ _,
-    ← c .before .before .before .before .before .before .before .before .before .before .before .before .before .before .is-reserving .ensures,
-    not-false (c .before .before .before .before .before .before .before .before .before .before .before .before .before .before .is-reserving .result) (c .before .before .before .before .before .before .before .before .before .before .before .before .before .if1 .left),
-    ← c .before .before .before .before .before .before .before .before .before .before .before .before .before .before .before .before .index-of .ensures,
-    ← c .before .before .before .before .before .before .before .before .before .before .before .before .slot .ensures,
-    ← c .before .before .before .before .before .before .before .before .get-local .ensures .0,
-    from-ends _ _ _ _ (sym (c .before .ends .ensures) ∙ c .if2 .taken),
-  ),
+  turn-own _ _ _ _
+      (c .before .before .before .before .before .before .before .before .before .before .before .before .before .before .before .before .index-of .ensures)
+      (c .before .before .before .before .before .before .before .before .before .before .before .before .before .before .before .start-tree .ensures .0)
+      (c .before .before .before .before .before .before .before .before .before .before .before .before .before .before .is-reserving .ensures)
+      (not-false (c .before .before .before .before .before .before .before .before .before .before .before .before .before .before .is-reserving .result) (c .before .before .before .before .before .before .before .before .before .before .before .before .before .if1 .left))
+      (c .before .before .before .before .before .before .before .before .before .before .before .before .slot .ensures)
+      (c .before .before .before .before .before .before .before .before .get-local .ensures .0)
+      (sym (c .before .ends .ensures) ∙ c .if2 .taken),
   omega (arith, c .before .before .before .before .before .before .before .before .get-local .ensures .1),
 )
 
@@ -95,19 +89,17 @@ same-length-9 : tie.Need-same-length-9
 same-length-9 c = c .before .before .before .before .before .before .search-and-reserve .kept .1 .1 .1 .1 .0 ∙ c .before .before .before .before .before .before .before .before .before .before .before .before .before .before .before .before .before .before .before .get-local .kept .1 .1 .1 .1 .0
 
 returns-3 : tie.Need-returns-3
-unfolding ifte getReserving
 returns-3 c = (
-  rw (
-    trees-turn _ _ _ _,
-    ← c .before .before .before .before .before .before .before .before .before .before .before .before .before .before .before .before .before .before .before .before .before .before .before .before .before .is-reserving .ensures,
-    not-false (c .before .before .before .before .before .before .before .before .before .before .before .before .before .before .before .before .before .before .before .before .before .before .before .before .before .is-reserving .result) (c .before .before .before .before .before .before .before .before .before .before .before .before .before .before .before .before .before .before .before .before .before .before .before .before .if1 .left),
-    ← c .before .before .before .before .before .before .before .before .before .before .before .before .before .before .before .before .before .before .before .before .before .before .before .before .before .before .before .index-of .ensures,
-    ← c .before .before .before .before .before .before .before .before .before .before .before .before .before .before .before .before .before .before .before .before .before .before .before .before .before .before .start-tree .ensures .0,
-    ← c .before .before .before .before .before .before .before .before .before .before .before .before .before .before .before .before .before .before .before .before .before .before .before .slot .ensures,
-    ← c .before .before .before .before .before .before .before .before .before .before .before .before .before .before .before .before .before .before .before .get-local .ensures .0,
-    from-goes _ _ _ _ (sym (c .before .before .before .before .before .before .before .before .before .before .before .before .ends .ensures) ∙ c .before .before .before .before .before .before .before .before .before .before .before .if2 .left),
-    ← c .before .before .before .before .before .before .before .before .before .before .start-after .ensures,
-  ) (c .before .before .before .before .before .before .search-and-reserve .ensures .0),
+  turn-reserves _ _ _ _
+      (c .before .before .before .before .before .before .before .before .before .before .before .before .before .before .before .before .before .before .before .before .before .before .before .before .before .before .before .index-of .ensures)
+      (c .before .before .before .before .before .before .before .before .before .before .before .before .before .before .before .before .before .before .before .before .before .before .before .before .before .before .start-tree .ensures .0)
+      (c .before .before .before .before .before .before .before .before .before .before .before .before .before .before .before .before .before .before .before .before .before .before .before .before .before .is-reserving .ensures)
+      (not-false (c .before .before .before .before .before .before .before .before .before .before .before .before .before .before .before .before .before .before .before .before .before .before .before .before .before .is-reserving .result) (c .before .before .before .before .before .before .before .before .before .before .before .before .before .before .before .before .before .before .before .before .before .before .before .before .if1 .left))
+      (c .before .before .before .before .before .before .before .before .before .before .before .before .before .before .before .before .before .before .before .before .before .before .before .slot .ensures)
+      (c .before .before .before .before .before .before .before .before .before .before .before .before .before .before .before .before .before .before .before .get-local .ensures .0)
+      (sym (c .before .before .before .before .before .before .before .before .before .before .before .before .ends .ensures) ∙ c .before .before .before .before .before .before .before .before .before .before .before .if2 .left)
+      (c .before .before .before .before .before .before .before .before .before .before .start-after .ensures)
+      (c .before .before .before .before .before .before .search-and-reserve .ensures .0),
   omega (arith, c .before .before .before .before .before .before .search-and-reserve .ensures .1, c .before .before .before .before .before .before .before .before .before .before .before .before .before .before .before .before .before .before .before .get-local .ensures .1),
 )
 
