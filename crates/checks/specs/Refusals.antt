@@ -44,6 +44,6 @@ module _ (c : Config) (q : Request) (f : ℕ) (s : State) (next : State → Told
     unfolding ifStanding ifte outcomeOf
     argument-refused e = rw (← tested, stands, ← checked, e, refusal-told _ s next)
 
-    pub goes-on : {w : Told} → o ≡ Outcome.Done → w ≡ next s → w ≡ ifStanding c s (λ s1. unless (refusal c q f) s1 next)
+    pub tests-passed : {w : Told} → o ≡ Outcome.Done → w ≡ next s → w ≡ ifStanding c s (λ s1. unless (refusal c q f) s1 next)
     unfolding ifStanding ifte unless outcomeOf
-    goes-on e h = rw (← tested, stands, ← checked, e) h
+    tests-passed e h = rw (← tested, stands, ← checked, e) h

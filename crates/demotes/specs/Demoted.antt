@@ -43,7 +43,7 @@ module _ (c : Config) (q : Request) (name : Name) (s : State) {w : Way} where
       unfolding demoteTo onReturned withTrees
       itself e h = rw (none, unreserve-returned _ _ _ _ _ _ _, ← back, e) h
 
-  -- nobody moves; the first with enough, at place j, is reduced and leaves its local (too few, or none, is not reached: the definition has it)
+  -- nobody moves; the first with enough, at place j, is reduced and leaves its local (too few, or absent, is not reached: the definition has it)
   module _ {i n : ℕ} {p : Payer} (from : i ≡ indexOf (q .local)) (much : n ≡ size q) (first : p ≡ demoteAny c (s .locals) (q .class) i name n) where
     pub nobody : p ≡ Payer.Nobody → w ≡ missed s → w ≡ demoteLocal c q name s
     unfolding demoteLocal moveFrom

@@ -21,12 +21,12 @@ use Rattle.lower_laws.specs.Cases.{below-or}
 unfoldable pub mayYield : Tree → ℕ → Bool
 mayYield t n = pick (t .reserved) false (leb n (t .free))
 
-enough : {A : Type 0} (f n : ℕ) (none x : A) → pick (ltb f n) none x ≡ pick (leb n f) x none
-enough f n none x = ⊎-elim (λ (h : f < n). rw (lt-ltb _ _ h, lt-leb _ _ h)) (λ (h : n ≤ f). rw (le-ltb _ _ h, le-leb _ _ h)) (below-or f n)
+turned : {A : Type 0} (f n : ℕ) (none x : A) → pick (ltb f n) none x ≡ pick (leb n f) x none
+turned f n none x = ⊎-elim (λ (h : f < n). rw (lt-ltb _ _ h, lt-leb _ _ h)) (λ (h : n ≤ f). rw (le-ltb _ _ h, le-leb _ _ h)) (below-or f n)
 
 one-test : {A : Type 0} (b : Bool) (f n : ℕ) (none x : A) → pick b none (pick (ltb f n) none x) ≡ pick (pick b false (leb n f)) x none
 one-test true f n none x = refl
-one-test false f n none x = enough f n none x
+one-test false f n none x = turned f n none x
 
 -- one that may has enough
 pub yields-enough : (t : Tree) (n : ℕ) {b : Bool} → b ≡ mayYield t n → b ≡ true → n ≤ t .free
@@ -37,6 +37,7 @@ yields-enough t n {b} tested e = go (t .reserved) refl
     go true h = absurd (true≢false (sym e ∙ (let y : b ≡ false = rw h at tested in y)))
     go false h = leb-true _ _ (let y : b ≡ leb n (t .free) = rw h at tested in sym y ∙ e)
 
+-- refused; or by the policy's answer
 module _ (c : Config) (t : Tree) (k n : ℕ) {b : Bool} (tested : b ≡ mayYield t n) where
   pub steal-refused : b ≡ false → Took.No ≡ stealOf c t k n
   unfolding stealOf mayYield
@@ -46,7 +47,6 @@ module _ (c : Config) (t : Tree) (k n : ℕ) {b : Bool} (tested : b ≡ mayYield
   unfolding reserveOf mayYield
   reserve-refused e = rw (one-test (t .reserved) (t .free) n Taken.No (reserveKind t k n (policy c k (t .class) n)), ← tested, e)
 
-  -- by the policy's answer
   module _ (may : b ≡ true) {kind answer : Kind} (asked : kind ≡ policy c k (t .class) n) (is : kind ≡ answer) where
     pub steal-by : {x : Took} → x ≡ stealKind t k n answer → x ≡ stealOf c t k n
     unfolding stealOf mayYield

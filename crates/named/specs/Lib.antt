@@ -1,2 +1,2 @@
 -- the routes of a named frame, by their answers
-pub mod Named
+pub mod AtFrame

@@ -19,7 +19,7 @@ use Rattle.ways.specs.Get.{lastRoutes}
 use Rattle.ends.specs.Ends.{ends, else-ends, else-goes}
 
 module _ (c : Config) (q : Request) (name : Name) (s : State) {w : Way} where
-  -- nobody pays; the first with enough, at place j, pays and its class is answered (too few, or none, is not reached: the definition has it)
+  -- nobody pays; the first with enough, at place j, pays and its class is answered (too few, or absent, is not reached: the definition has it)
   module _ {i n : ℕ} {p : Payer} (from : i ≡ indexOf (q .local)) (much : n ≡ size q) (first : p ≡ stealAny c (s .locals) (q .class) i name n) where
     pub pay-nobody : p ≡ Payer.Nobody → w ≡ missed s → w ≡ stealLocal c q name s
     unfolding stealLocal payFrom
@@ -40,11 +40,11 @@ module _ (c : Config) (q : Request) (name : Name) (s : State) {w : Way} where
       pay-absent e h = rw (← from, ← much, ← first, some, ← much, ← took, e) h
 
 -- steal from locals, then demote
-module _ (c : Config) (q : Request) (name : Name) (s : State) {g : Got} {s′ : State} (first : out g s′ ≡ stealLocal c q name s) where
-  pub last-ends : ends g ≡ true → out g s′ ≡ lastRoutes c q name s
+module _ (c : Config) (q : Request) (name : Name) (s : State) {g : Got} {s1 : State} (first : out g s1 ≡ stealLocal c q name s) where
+  pub last-ends : ends g ≡ true → out g s1 ≡ lastRoutes c q name s
   unfolding lastRoutes
   last-ends e = rw (← first, else-ends _ _ _ e)
 
-  pub last-goes : {w : Way} → ends g ≡ false → w ≡ demoteLocal c q name s′ → w ≡ lastRoutes c q name s
+  pub last-goes : {w : Way} → ends g ≡ false → w ≡ demoteLocal c q name s1 → w ≡ lastRoutes c q name s
   unfolding lastRoutes
   last-goes e h = rw (← first, else-goes _ _ _ e) h

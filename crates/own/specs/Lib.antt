@@ -1,2 +1,2 @@
--- a part of a take from the own local
+-- a part of a take from the own local, and its ways
 pub mod Own

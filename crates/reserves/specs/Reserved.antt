@@ -20,7 +20,7 @@ use Rattle.unreserves.specs.Returned.{returned, returnedLocal, local-returned, 
 module _ (c : Config) (q : Request) (j t old : ℕ) (s : State) {w : Way} {x : Found} {bs ts : List ℕ} {b : Bool} {r : Routed}
     (asked : out x bs ≡ lowerGet (c .order) (s .bits) (t * treeRows (c .order)) (q .order) Any)
     (same : (r .looks ≡ s .looks) × (r .tries ≡ s .tries + 1)) where
-  -- a frame: the reservation is stored, and the one that it replaces returned
+  -- a frame: the reservation is stored, and the one that it replaces returned, or Stuck
   pub reserved-stored : {f n free : ℕ} {new l : Local} {ls : List ℕ} → x ≡ Found.At f → n ≡ size q → free ≡ old - n → new ≡ reservation (t * treeRows (c .order)) free
       → out l ls ≡ localSwap (s .locals) j new → out b ts ≡ returnedLocal c l (q .class) (s .trees)
       → ended r ts ls bs ≡ done f (q .class) (st ts ls bs (s .looks) (s .tries + 1))
@@ -29,7 +29,7 @@ module _ (c : Config) (q : Request) (j t old : ℕ) (s : State) {w : Way} {x : F
   reserved-stored e much left made swap back end h =
       rw (← asked, e, ← much, ← left, ← made, ← swap, local-returned _ _ _ _ _ _, ← back, returned-if _ _ _ _ _, ← end, ← same .0, ← same .1) h
 
-  -- none: it is undone
+  -- none: it is undone, or Stuck
   pub reserved-undone : x ≡ Found.Nothing → out b ts ≡ returned c t (q .class) old (s .trees)
       → ended r ts (s .locals) bs ≡ missed (st ts (s .locals) bs (s .looks) (s .tries + 1))
       → w ≡ ifte b (λ _. ended r ts (s .locals) bs) (λ _. stuck (st ts (s .locals) bs (r .looks) (r .tries))) → w ≡ reserved c q j t old s

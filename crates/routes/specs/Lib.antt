@@ -3,4 +3,4 @@ pub mod Start
 -- whether it reserves or steals
 pub mod Turn
 -- the routes of a get with no name, by their answers
-pub mod Asked
+pub mod Turns

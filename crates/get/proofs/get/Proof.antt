@@ -2,7 +2,7 @@
 use mathlib.Core.Path.{refl, sym, ap, _∙_}
 use Rattle.checks.specs.Checked.{checked-fits}
 use Rattle.step_laws.specs.Tested.{standing-accepted}
-use Rattle.checks.specs.Refusals.{done-checked, state-broken, argument-refused, goes-on}
+use Rattle.checks.specs.Refusals.{done-checked, state-broken, argument-refused, tests-passed}
 use Rattle.ways.specs.Calls.{numberOf, tellGet, close, get}
 use borrow.Author.Needs.{needs}
 use Rattle.get.proofs.get.Statement.{statement}
@@ -50,7 +50,7 @@ returns : tie.Need-returns
 unfolding get
 returns c =
     rw (← c .before .before .before .before .before .before .before .before .before .before .before .before .before .before .frame-of .ensures)
-    (goes-on _ _ _ _ _
+    (tests-passed _ _ _ _ _
     (c .before .before .before .before .before .before .before .before .before .before .before .before .before .before .before .before .stands .ensures)
     (c .before .before .before .before .before .before .before .before .before .before .before .before .before .before .before .if1 .taken)
     (c .before .before .before .before .before .before .before .before .before .before .before .before .before .check .ensures)

@@ -1,5 +1,5 @@
 -- `named::get_at` meets its contract. Assumes nothing.
-use Rattle.named.specs.Named.{at-own, at-tree, at-last}
+use Rattle.named.specs.AtFrame.{at-own, at-tree, at-last}
 use mathlib.Core.Path.{refl, sym, _∙_}
 use native.Mathlib.Omega.{arith}
 use borrow.Author.Needs.{needs}

@@ -2,7 +2,7 @@
 use mathlib.Core.Path.{refl, sym, _∙_}
 use Rattle.checks.specs.Checked.{checked-fits}
 use Rattle.step_laws.specs.Tested.{standing-accepted}
-use Rattle.checks.specs.Refusals.{done-checked, state-broken, argument-refused, goes-on}
+use Rattle.checks.specs.Refusals.{done-checked, state-broken, argument-refused, tests-passed}
 use Rattle.ways.specs.Calls.{numberOf, outcomeOf, put}
 use borrow.Author.Needs.{needs}
 use Rattle.put.proofs.put.Statement.{statement}
@@ -37,7 +37,7 @@ same-length-3 c = c .before .before .before .before .before .before .put-body .k
 returns : tie.Need-returns
 unfolding put
 returns c =
-    goes-on _ _ _ _ _
+    tests-passed _ _ _ _ _
     (c .before .before .before .before .before .before .before .before .before .before .before .before .before .before .stands .ensures)
     (c .before .before .before .before .before .before .before .before .before .before .before .before .before .if1 .taken)
     (c .before .before .before .before .before .before .before .before .before .before .before .before .check .ensures)

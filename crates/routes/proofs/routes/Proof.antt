@@ -1,5 +1,5 @@
 -- `routes::routes` meets its contract. Assumes nothing.
-use Rattle.routes.specs.Asked.{asked-ends, asked-last}
+use Rattle.routes.specs.Turns.{asked-ends, asked-last}
 use Rattle.ways.specs.Get.{routes}
 use mathlib.Core.Path.{sym, _∙_}
 use native.Mathlib.Omega.{arith}

@@ -1,6 +1,6 @@
 -- `routes::search_trees` meets its contract. Assumes nothing.
 use mathlib.Core.Path.{sym, _∙_}
-use Rattle.routes.specs.Asked.{turn-steals, turn-own, turn-reserves}
+use Rattle.routes.specs.Turns.{turn-steals, turn-own, turn-reserves}
 use Rattle.routes.specs.Start.{start-small}
 use borrow.Author.Tests.{not-true, not-false}
 use native.Mathlib.Omega.{arith}

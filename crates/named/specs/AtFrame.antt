@@ -13,6 +13,7 @@ use Rattle.ways.specs.Walk.{stealGlobal}
 use Rattle.ways.specs.Get.{lastRoutes, getAt}
 use Rattle.ends.specs.Ends.{ends, else-ends, else-goes}
 
+-- the own local ends it
 module _ (c : Config) (q : Request) (f : ℕ) (s : State) {g : Got} {s1 : State} (own : out g s1 ≡ ownLocal c q (Frame f) (q .local) s) where
   pub at-own : ends g ≡ true → out g s1 ≡ getAt c q f s
   unfolding getAt
