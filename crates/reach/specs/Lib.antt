@@ -5,7 +5,7 @@ pub mod Ends
 pub mod Walks
 pub mod Own
 pub mod Lenders
--- the theorem, what is withheld, and the promise
+-- the theorem, what is out of reach, and the promise
 pub mod Memory
-pub mod Withheld
+pub mod OutOfReach
 pub mod Promise

@@ -44,9 +44,9 @@ lends-fact c k e = go (eqb (kindAt c k e) 1) refl (eqb (kindAt c k e) 3) refl (e
     go false a false b true d true f h = true-false h refl
     go false a false b false d z f h = true-false h refl
 
--- the free frames that are withheld from class k: in the entries of reserved trees and of trees that are Invalid for it, and in locals of classes that do not lend to it
-unfoldable pub withheld : Config → List ℕ → List ℕ → ℕ → ℕ
-withheld c ts ls k =
+-- the free frames that are out of reach of class k: in the entries of reserved trees and of trees that are Invalid for it, and in locals of classes that do not lend to it
+unfoldable pub outOfReach : Config → List ℕ → List ℕ → ℕ → ℕ
+outOfReach c ts ls k =
     sum (λ t. pick (entryAt ts t .reserved) (entryAt ts t .free) (pick (eqb (kindAt c k (entryAt ts t .class)) 0) (entryAt ts t .free) 0)) 0 (trees c)
     + sum (λ e. pick (lends c k e) 0 (localFree c ls e)) 0 8
 
@@ -59,10 +59,10 @@ module _ (c : Config) (sz : Size (c .order)) (ts ls bs : List ℕ) (w : TreeWord
   empty-local : (j : ℕ) → (localAt ls j .present ≡ true → localAt ls j .free ≡ 0) → localAt ls j .free ≡ 0
   empty-local j f = by (localAt ls j .present) f (λ p. sym (own-free c sz ts ls bs w S j) ∙ ap (λ (b : Bool). pick b (localAt ls j .free) 0) p)
 
-  -- where nothing is reachable, every free frame is withheld
-  pub all-withheld : (k : ℕ) (given : Given) → Unreachable c ts ls k given → freeFrames bs (c .frames) ≡ withheld c ts ls k
-  unfolding withheld totalFree localFree localCount
-  all-withheld k given U =
+  -- where nothing is reachable, every free frame is out of reach
+  pub all-out-of-reach : (k : ℕ) (given : Given) → Unreachable c ts ls k given → freeFrames bs (c .frames) ≡ outOfReach c ts ls k
+  unfolding outOfReach totalFree localFree localCount
+  all-out-of-reach k given U =
       sym (total-free c sz ts ls bs w S)
       ∙ ap₂ (λ (x y : ℕ). x + y)
       (sum-ext _ _ 0 (trees c) (λ t a b. at t (omega arith) (entryAt ts t .reserved) refl (eqb (kindAt c k (entryAt ts t .class)) 0) refl))
@@ -81,10 +81,10 @@ module _ (c : Config) (sz : Size (c .order)) (ts ls bs : List ℕ) (w : TreeWord
           (λ i a b. empty-local (slot (c .places) e i) (U .locals e i le (omega arith) (lends-fact c k e f)))
       class e le false f = refl
 
-  -- with no reservation and no Invalid class nothing is withheld
-  pub none-withheld : (k : ℕ) → ((t : ℕ) → t < trees c → entryAt ts t .reserved ≡ false) → ((j : ℕ) → localAt ls j .present ≡ false) → ((e : ℕ) → Configured c e → 0 < kindAt c k e) → withheld c ts ls k ≡ 0
-  unfolding withheld localFree
-  none-withheld k u p v =
+  -- with no reservation and no Invalid class nothing is out of reach
+  pub none-out-of-reach : (k : ℕ) → ((t : ℕ) → t < trees c → entryAt ts t .reserved ≡ false) → ((j : ℕ) → localAt ls j .present ≡ false) → ((e : ℕ) → Configured c e → 0 < kindAt c k e) → outOfReach c ts ls k ≡ 0
+  unfolding outOfReach localFree
+  none-out-of-reach k u p v =
       ap₂ (λ (x y : ℕ). x + y)
       (sum-zero (λ t. pick (entryAt ts t .reserved) (entryAt ts t .free) (pick (eqb (kindAt c k (entryAt ts t .class)) 0) (entryAt ts t .free) 0)) 0 (trees c)
       (λ t a b.
@@ -96,10 +96,10 @@ module _ (c : Config) (sz : Size (c .order)) (ts ls bs : List ℕ) (w : TreeWord
       class e true = refl
       class e false = sum-zero (λ i. localAt ls (slot (c .places) e i) .free) 0 (localsOf (c .places) e) (λ i a b. empty-local (slot (c .places) e i) (λ a. true-false a (p (slot (c .places) e i))))
 
--- a get of one frame that is refused with Memory: every free frame below F is withheld from its class
-pub memory-withheld : (c : Config) → Size (c .order) → (t l b : List ℕ) → TreeWords t → standing c t l b ≡ true → (q : Request) → q .order ≡ 0 → refusal c q 0 ≡ 0
-    → get c q Any t l b .number ≡ 7 → freeFrames b (c .frames) ≡ withheld c t l (q .class)
-memory-withheld c sz t l b w S q single fit n = all-withheld c sz t l b w S (q .class) (q .local) (memory-exactly c sz t l b w S q single fit .0 n)
+-- a get of one frame that is refused with Memory: every free frame below F is out of reach of its class
+pub memory-out-of-reach : (c : Config) → Size (c .order) → (t l b : List ℕ) → TreeWords t → standing c t l b ≡ true → (q : Request) → q .order ≡ 0 → refusal c q 0 ≡ 0
+    → get c q Any t l b .number ≡ 7 → freeFrames b (c .frames) ≡ outOfReach c t l (q .class)
+memory-out-of-reach c sz t l b w S q single fit n = all-out-of-reach c sz t l b w S (q .class) (q .local) (memory-exactly c sz t l b w S q single fit .0 n)
 
 -- directly after a drain, where no class is Invalid for the request's: it is refused with Memory only if no frame below F is free
 pub drained-full : (c : Config) → Size (c .order) → (t l b : List ℕ) → TreeWords t → standing c t l b ≡ true → (q : Request) → q .order ≡ 0 → refusal c q 0 ≡ 0
@@ -110,7 +110,7 @@ drained-full c sz t l b w S q single fit v n =
     let w2 = kept-words c _ _ _ (D .kept) in
     let S2 = kept-test c sz _ _ _ (D .kept) in
     ap (λ (x : List ℕ). freeFrames x (c .frames)) (sym (D .bits))
-    ∙ memory-withheld c sz (drain c t l b .trees) (drain c t l b .locals) (drain c t l b .bits) w2 S2 q single fit n
-    ∙ none-withheld c sz (drain c t l b .trees) (drain c t l b .locals) (drain c t l b .bits) w2 S2 (q .class)
+    ∙ memory-out-of-reach c sz (drain c t l b .trees) (drain c t l b .locals) (drain c t l b .bits) w2 S2 q single fit n
+    ∙ none-out-of-reach c sz (drain c t l b .trees) (drain c t l b .locals) (drain c t l b .bits) w2 S2 (q .class)
     (none-reserved c (drain c t l b .trees) (drain c t l b .locals) (drain c t l b .bits) (D .kept) (D .absent))
     (none-present c (drain c t l b .trees) (drain c t l b .locals) (drain c t l b .bits) (D .kept) (D .absent)) v
