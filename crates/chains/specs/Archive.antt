@@ -123,7 +123,7 @@ module _ (h : Header) (pairs : List ℕ) where
         (figures-by (config h pairs) (s .trees) (s .locals) (s .bits) n _ _ refl refl),
     d,
   )
-  promised (starts d table free r) s e P = told-back r e _ (start-few (config d table) (s .trees) (s .locals) (s .bits) free) P
+  promised (starts d table free lent r left) s e (P, A) = (told-back r left _ (start-few (config d table) (lent .trees) (lent .locals) (lent .bits) free) P, A)
 
   -- and so every call of a chain
   pub archive-chain : (xs : List Call) (s e : Words) → Calls h pairs xs s e → Chain h pairs (steps xs) s e

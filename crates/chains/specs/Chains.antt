@@ -18,7 +18,7 @@ use Rattle.ways.specs.declared.Totals.{Totals}
 use Rattle.ways.specs.Promises.{Words}
 use Rattle.tallies.specs.Rows.{rowList}
 use Rattle.complete.specs.Complete.{refusalOf}
-use Rattle.sequence.specs.Demand.{Step, Chain, NoRestart, NoneStuck, Demand3}
+use Rattle.sequence.specs.Demand.{Step, StateAfter, Chain, NoRestart, NoneStuck, Demand3}
 use Rattle.sequence.specs.Demand as Demand
 use Rattle.numbers.specs.declared.Answer.{Answer}
 use Rattle.c_forms.specs.declared.Figures.{Figures}
@@ -26,13 +26,14 @@ use Rattle.llfree_c.specs.Promises.{StartNumber, GetAnswer, PutNumber, DrainNum
 
 -- ---- a chain of the archive's calls, each on the words as the call before left them
 
--- a call, as the caller sees it: what was asked, and the numbers that were answered. A start in the chain names a header and a table of its own
+-- a call, as the caller sees it: what was asked, and the numbers that were answered. A start in the chain names a header and a table of its own, and is lent words of
+-- its own, as it finds them and as it leaves them: of any lengths, and any of them may be words of the state
 pub data Call : Type 0 where
   gets : Name → Request → Answer → Call
   puts : ℕ → Request → ℕ → Call
   drains : ℕ → Call
   reports : ℕ → Figures → Call
-  starts : Header → List ℕ → Bool → ℕ → Call
+  starts : Header → List ℕ → Bool → Words → ℕ → Words → Call
 
 -- from the words s to the words e the call satisfies the promise of the archive's function
 abbrev pub Answered : Header → List ℕ → Call → Words → Words → Type 0
@@ -40,7 +41,7 @@ Answered h pairs (gets name q r) s e = GetAnswer h pairs name q s r e
 Answered h pairs (puts f q r) s e = PutNumber h pairs f q s r e
 Answered h pairs (drains r) s e = DrainNumber h pairs s r e
 Answered h pairs (reports n r) s e = FiguresAnswer h pairs s n r × (e ≡ s)
-Answered h pairs (starts h' pairs' free r) s e = StartNumber h' pairs' free s r e
+Answered h pairs (starts h' pairs' free lent r left) s e = StartNumber h' pairs' free lent r left × StateAfter lent left s e
 
 -- every call of the chain
 abbrev pub Calls : Header → List ℕ → List Call → Words → Words → Type 0
@@ -77,7 +78,7 @@ stepOf (gets name q r) = Demand.gets name q (record { granted = grantedFrom (r .
 stepOf (puts f q r) = Demand.puts f q (outcomeFrom r)
 stepOf (drains r) = Demand.drains (outcomeFrom r)
 stepOf (reports n r) = Demand.reports (emptyRows n) (totalsFrom r) (rowsFrom n r)
-stepOf (starts h pairs free r) = Demand.starts h pairs free (outcomeFrom r)
+stepOf (starts h pairs free lent r left) = Demand.starts h pairs free lent (outcomeFrom r) left
 
 -- all of them
 abbrev pub steps : List Call → List Step

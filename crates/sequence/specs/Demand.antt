@@ -1,7 +1,7 @@
 -- Demand 3: over any finite sequence of calls after an accepted start, nothing drifts. Chains of calls, the ledger of calls and answers, the statements. Assumes nothing.
 use mathlib.Core.Path.{_≡_}
 use mathlib.Core.Bool.{Bool, true, false, not}
-use mathlib.Core.List.{List, [], _∷_}
+use mathlib.Core.List.{List, [], _∷_, _++_}
 use Prim.Native.Nat.{ℕ, _+_, _-_, _*_, _/_, _^_, _<_}
 use lib.Dec.{eqb, leb, ltb}
 use lib.ListN.{getD, length}
@@ -23,13 +23,36 @@ use Rattle.ways.specs.Promises.{Words, StartPromise, GetPromise, PutPromise, Dr
 
 -- ---- a chain of calls, each on the words as the call before left them
 
--- a call, as the caller sees it: what was asked, and what was answered. A start in the chain names a header and a table of its own
+-- a call, as the caller sees it: what was asked, and what was answered. A start in the chain names a header and a table of its own, and is lent words of its own,
+-- as it finds them and as it leaves them: of any lengths, and any of them may be words of the state
 pub data Step : Type 0 where
   gets : Name → Request → Reply → Step
   puts : ℕ → Request → Outcome → Step
   drains : Outcome → Step
   reports : List Tally → Totals → List Tally → Step
-  starts : Header → List ℕ → Bool → Outcome → Step
+  starts : Header → List ℕ → Bool → Words → Outcome → Words → Step
+
+-- lent words, one list behind the other
+abbrev pub inOne : Words → List ℕ
+inOne w = w .trees ++ (w .locals ++ w .bits)
+
+-- a word of the state was v, and is w after a call that was lent some words and left them so
+pub data WordAfter (lent left : Words) (v w : ℕ) : Type 0 where
+  -- it is one of those lent, at place i
+  among : (i : ℕ) → v ≡ getD (inOne lent) i 0 → w ≡ getD (inOne left) i 0 → WordAfter lent left v w
+  -- it is none of them, and stays
+  beside : w ≡ v → WordAfter lent left v w
+
+-- a list of the state was s, and is e after it: as long, and so each of its words
+pub record ListAfter (lent left : Words) (s e : List ℕ) : Type 0 where
+  pub long : length e ≡ length s
+  pub each : (i : ℕ) → WordAfter lent left (getD s i 0) (getD e i 0)
+
+-- the state was s, and is e after it
+pub record StateAfter (lent left s e : Words) : Type 0 where
+  pub trees : ListAfter lent left (s .trees) (e .trees)
+  pub locals : ListAfter lent left (s .locals) (e .locals)
+  pub bits : ListAfter lent left (s .bits) (e .bits)
 
 -- from the words s to the words e the step satisfies the promise of the function that was called
 abbrev pub Promised : Header → List ℕ → Step → Words → Words → Type 0
@@ -37,7 +60,7 @@ Promised h pairs (gets name q r) s e = GetPromise h pairs name q s r e
 Promised h pairs (puts f q r) s e = PutPromise h pairs f q s r e
 Promised h pairs (drains r) s e = DrainPromise h pairs s r e
 Promised h pairs (reports rows r filled) s e = StatisticsPromise h pairs s rows r filled × (e ≡ s)
-Promised h pairs (starts h' pairs' allFree r) s e = StartPromise h' pairs' allFree s r e
+Promised h pairs (starts h' pairs' allFree lent r left) s e = StartPromise h' pairs' allFree lent r left × StateAfter lent left s e
 
 -- every step of the chain
 abbrev pub Chain : Header → List ℕ → List Step → Words → Words → Type 0
@@ -57,16 +80,16 @@ number (gets name q r) = numberGot (r .granted)
 number (puts f q r) = outcomeOf r
 number (drains r) = outcomeOf r
 number (reports rows r filled) = outcomeOf (r .outcome)
-number (starts h pairs allFree r) = outcomeOf r
+number (starts h pairs allFree lent r left) = outcomeOf r
 
--- no start in the chain was accepted
+-- no start in the chain was accepted, whatever it was lent
 abbrev pub NoRestart : List Step → Type 0
 NoRestart [] = Unit {0}
 NoRestart (gets name q r ∷ xs) = NoRestart xs
 NoRestart (puts f q r ∷ xs) = NoRestart xs
 NoRestart (drains r ∷ xs) = NoRestart xs
 NoRestart (reports rows r filled ∷ xs) = NoRestart xs
-NoRestart (starts h pairs allFree r ∷ xs) = (outcomeOf r ≡ 0 → ⊥) × NoRestart xs
+NoRestart (starts h pairs allFree lent r left ∷ xs) = (outcomeOf r ≡ 0 → ⊥) × NoRestart xs
 
 -- ---- the ledger, from the calls and their answers alone
 
@@ -91,7 +114,7 @@ handedOut z t (gets name q r ∷ xs) = handed z t (q .order) (r .granted) + hand
 handedOut z t (puts f q r ∷ xs) = handedOut z t xs
 handedOut z t (drains r ∷ xs) = handedOut z t xs
 handedOut z t (reports rows r filled ∷ xs) = handedOut z t xs
-handedOut z t (starts h pairs allFree r ∷ xs) = handedOut z t xs
+handedOut z t (starts h pairs allFree lent r left ∷ xs) = handedOut z t xs
 
 -- frames of tree t given back in all
 unfoldable pub givenBack : ℕ → ℕ → List Step → ℕ
@@ -100,7 +123,7 @@ givenBack z t (gets name q r ∷ xs) = givenBack z t xs
 givenBack z t (puts f q r ∷ xs) = gaveBack z t (q .order) f r + givenBack z t xs
 givenBack z t (drains r ∷ xs) = givenBack z t xs
 givenBack z t (reports rows r filled ∷ xs) = givenBack z t xs
-givenBack z t (starts h pairs allFree r ∷ xs) = givenBack z t xs
+givenBack z t (starts h pairs allFree lent r left ∷ xs) = givenBack z t xs
 
 -- frame x lies in the block of order o at frame f
 unfoldable pub inBlock : ℕ → ℕ → ℕ → Bool
@@ -137,7 +160,7 @@ NoneTwice held (gets name q r ∷ xs) = NotYetHeld held (q .order) (r .granted) 
 NoneTwice held (puts f q r ∷ xs) = AllHeld held (q .order) f r × NoneTwice (heldAfterPut held (q .order) f r) xs
 NoneTwice held (drains r ∷ xs) = NoneTwice held xs
 NoneTwice held (reports rows r filled ∷ xs) = NoneTwice held xs
-NoneTwice held (starts h pairs allFree r ∷ xs) = NoneTwice held xs
+NoneTwice held (starts h pairs allFree lent r left ∷ xs) = NoneTwice held xs
 
 -- no call answers Broken
 abbrev pub NoneBroken : List Step → Type 0
@@ -191,16 +214,16 @@ FromStanding = (h : Header) (pairs : List ℕ) (s e : Words) (xs : List Step)
     → NoRestart xs → Chain h pairs xs s e
     → (NoneBroken xs × NoneStuck xs) × (standing (config h pairs) (e .trees) (e .locals) (e .bits) ≡ true)
 
--- the tally rows that statistics are lent are as they were; no other call is lent rows
-abbrev pub RowsLeft : Step → Type 0
-RowsLeft (reports rows r filled) = filled ≡ rows
-RowsLeft (gets name q r) = Unit {0}
-RowsLeft (puts f q r) = Unit {0}
-RowsLeft (drains r) = Unit {0}
-RowsLeft (starts h pairs allFree r) = Unit {0}
+-- what a call is lent beside the state's words is as it was: statistics their tally rows, a start its words; no other call is lent more
+abbrev pub LentLeft : Step → Type 0
+LentLeft (reports rows r filled) = filled ≡ rows
+LentLeft (gets name q r) = Unit {0}
+LentLeft (puts f q r) = Unit {0}
+LentLeft (drains r) = Unit {0}
+LentLeft (starts h pairs allFree lent r left) = left ≡ lent
 
--- from any words: Done and Memory leave them as the rules say, Stuck as the step before left them, all others unchanged, lent rows too
+-- from any words: Done and Memory leave them as the rules say, Stuck as the step before left them, all others unchanged, and so is what else is lent
 abbrev pub OthersUnchanged : Type 0
 OthersUnchanged = (h : Header) (pairs : List ℕ) (x : Step) (s e : Words)
     → Promised h pairs x s e → (number x ≡ 0 → ⊥) → (number x ≡ 7 → ⊥) → (number x ≡ 9 → ⊥)
-    → (e ≡ s) × RowsLeft x
+    → (e ≡ s) × LentLeft x

@@ -1,4 +1,4 @@
--- A call that is not Done, Memory or Stuck leaves the words, whatever they are, and the tally rows. Assumes nothing.
+-- A call that is not Done, Memory or Stuck leaves the words, whatever they are, and what else it is lent. Assumes nothing.
 use mathlib.Core.Path.{_≡_, refl, sym, ap, _∙_, subst}
 use mathlib.Core.Bool.{Bool, true, false}
 use mathlib.Core.Logic.{_≢_}
@@ -23,11 +23,12 @@ use Rattle.ways.specs.declared.Tally.{Tally}
 use Rattle.ways.specs.Standing.{lengthsExact, standing}
 use Rattle.ways.specs.Calls.{Told, fresh, outcomeOf, told, tellGet, refusal, frameOf, close, get, onGiven, putTo, put, drainClasses, closeDrain, drain, start}
 use Rattle.ways.specs.Statistics.{Report, statistics}
-use Rattle.ways.specs.Promises.{Words}
+use Rattle.ways.specs.Promises.{Words, StartPromise}
 use Rattle.step_laws.specs.Steps.{ifte-ind}
 use Rattle.step_laws.specs.Answers.{unless-ind, standing-ind}
 use Rattle.complete.specs.Complete.{same-words}
-use Rattle.sequence.specs.Demand.{Step, gets, puts, drains, reports, starts, Promised, number, numberGot, RowsLeft}
+use Rattle.sequence.specs.Demand.{Step, gets, puts, drains, reports, starts, Promised, number, numberGot, LentLeft}
+use Rattle.sequence.specs.Lent.{state-stays}
 
 -- what a call that is not Done, Memory or Stuck tells has the words t, l and b
 abbrev Left : List ℕ → List ℕ → List ℕ → Told → Type 0
@@ -93,6 +94,12 @@ got-left (Granted.Refused w) s e i k d P h x y z =
     let u = subst (Left (s .trees) (s .locals) (s .bits)) (sym P) h x y z in
     same-words e s (u .0) (u .1 .0) (u .1 .1)
 
+-- of a start: the words that it is lent
+start-kept : (d : Header) (table : List ℕ) (allFree : Bool) (lent : Words) (r : Outcome) (left : Words) → StartPromise d table allFree lent r left
+    → outcomeOf r ≢ 0 → outcomeOf r ≢ 7 → outcomeOf r ≢ 9 → left ≡ lent
+start-kept d table allFree lent r left P =
+    told-left r lent left (start (config d table) allFree (lent .trees) (lent .locals) (lent .bits)) P (start-left (config d table) (lent .trees) (lent .locals) (lent .bits) allFree)
+
 -- a step of any call
 pub step-left : (h : Header) (pairs : List ℕ) (x : Step) (s e : Words) → Promised h pairs x s e → number x ≢ 0 → number x ≢ 7 → number x ≢ 9 → e ≡ s
 unfolding number
@@ -102,8 +109,7 @@ step-left h pairs (puts f q r) s e P =
     told-left r s e (put (config h pairs) q f (s .trees) (s .locals) (s .bits)) P (put-left (config h pairs) (s .trees) (s .locals) (s .bits) q f)
 step-left h pairs (drains r) s e P = told-left r s e (drain (config h pairs) (s .trees) (s .locals) (s .bits)) P (drain-left (config h pairs) (s .trees) (s .locals) (s .bits))
 step-left h pairs (reports rows r filled) s e P = λ x y z. P .1
-step-left h pairs (starts d table allFree r) s e P =
-    told-left r s e (start (config d table) allFree (s .trees) (s .locals) (s .bits)) P (start-left (config d table) (s .trees) (s .locals) (s .bits) allFree)
+step-left h pairs (starts d table allFree lent r left) s e P = λ x y z. state-stays lent left s e (start-kept d table allFree lent r left (P .0) x y z) (P .1)
 
 -- statistics that are refused leave the rows
 rows-as-lent : (c : Config) (ts ls bs : List ℕ) (rows : List Tally) → statistics c ts ls bs rows .number ≢ 0 → statistics c ts ls bs rows .rows ≡ rows
@@ -113,11 +119,12 @@ rows-as-lent c ts ls bs rows =
     (λ _. ifte-ind (λ (r : Report). r .number ≢ 0 → r .rows ≡ rows) (eqb (length rows) 8) _ _ (λ _ x. absurd (x refl)) (λ _ x. refl))
     (λ _ x. refl)
 
-pub rows-left : (h : Header) (pairs : List ℕ) (x : Step) (s e : Words) → Promised h pairs x s e → number x ≢ 0 → RowsLeft x
+-- and a refused call what else it is lent
+pub lent-left : (h : Header) (pairs : List ℕ) (x : Step) (s e : Words) → Promised h pairs x s e → number x ≢ 0 → number x ≢ 7 → number x ≢ 9 → LentLeft x
 unfolding number
-rows-left h pairs (gets name q r) s e P x = tt
-rows-left h pairs (puts f q r) s e P x = tt
-rows-left h pairs (drains r) s e P x = tt
-rows-left h pairs (reports rows r filled) s e P x =
-    ap (λ (y : Report). y .rows) (P .0) ∙ rows-as-lent (config h pairs) (s .trees) (s .locals) (s .bits) rows (λ z. x (ap (λ (y : Report). y .number) (P .0) ∙ z))
-rows-left h pairs (starts d table allFree r) s e P x = tt
+lent-left h pairs (gets name q r) s e P x y z = tt
+lent-left h pairs (puts f q r) s e P x y z = tt
+lent-left h pairs (drains r) s e P x y z = tt
+lent-left h pairs (reports rows r filled) s e P x y z =
+    ap (λ (u : Report). u .rows) (P .0) ∙ rows-as-lent (config h pairs) (s .trees) (s .locals) (s .bits) rows (λ n. x (ap (λ (u : Report). u .number) (P .0) ∙ n))
+lent-left h pairs (starts d table allFree lent r left) s e P x y z = start-kept d table allFree lent r left (P .0) x y z

@@ -19,7 +19,7 @@ use Rattle.hand.specs.Hand.{Kept}
 use Rattle.standing_laws.specs.Standing.{kept-test, test-kept}
 use Rattle.sequence.specs.Demand.{Step, gets, puts, drains, reports, starts, Chain, number, NoRestart, handedOut, givenBack, heldAtStart, heldAfterGet, heldAfterPut, NoneTwice, NoneBroken, NoneStuck, Demand3, Sequence, NeverStuck, FromStanding, OthersUnchanged}
 use Rattle.sequence.specs.Blocks.{reserved-is}
-use Rattle.sequence.specs.Refused.{step-left, rows-left}
+use Rattle.sequence.specs.Refused.{step-left, lent-left}
 use Rattle.sequence.specs.Steps.{Agreed, get-step, put-step, drain-step, count-step, refused-start, start-step}
 
 -- the whole chain, from words where the rules and the ledger agree
@@ -75,9 +75,9 @@ module _ (h : Header) (pairs : List ℕ) where
         unbroken = (G .0, R .unbroken);
         unstuck = (G .1, R .unstuck);
       }
-  all-steps held s (starts d table allFree r ∷ xs) e A n (m, (P, C)) =
-      let G = refused-start (config d table) allFree s r m P (n .0) in
-      let same : m ≡ s = step-left h pairs (starts d table allFree r) s m P (n .0) (λ z. omega (arith, z, G)) (λ z. omega (arith, z, G)) in
+  all-steps held s (starts d table allFree lent r left ∷ xs) e A n (m, (P, C)) =
+      let G = refused-start (config d table) allFree lent r left (P .0) (n .0) in
+      let same : m ≡ s = step-left h pairs (starts d table allFree lent r left) s m P (n .0) (λ z. omega (arith, z, G)) (λ z. omega (arith, z, G)) in
       let R = all-steps held m xs e (subst (Agreed (config h pairs) held) (sym same) A) (n .1) C in
       record {
         kept = R .kept;
@@ -133,6 +133,6 @@ from-standing h pairs s e xs S w n C =
     let R = all-steps h pairs (λ x. eqb (bit (s .bits) x) 1) s xs e (record { kept = K; agree = λ x lt. as-held (bit (s .bits) x) (bit-le (s .bits) x) }) n C in
     ((R .unbroken, R .unstuck), kept-test (config h pairs) size-eleven (e .trees) (e .locals) (e .bits) (R .kept .1 .kept))
 
--- from any words: a call that is not Done, Memory or Stuck leaves them, and the tally rows
+-- from any words: a call that is not Done, Memory or Stuck leaves them, and what else it is lent
 pub others-unchanged : OthersUnchanged
-others-unchanged h pairs x s e P a b d = (step-left h pairs x s e P a b d, rows-left h pairs x s e P a)
+others-unchanged h pairs x s e P a b d = (step-left h pairs x s e P a b d, lent-left h pairs x s e P a b d)
