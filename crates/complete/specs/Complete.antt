@@ -87,7 +87,8 @@ refused Refusal.Stuck e = absurd (omega (arith, e))
 refused Refusal.Config e = absurd (omega (arith, e))
 refused Refusal.Rows e = absurd (omega (arith, e))
 
-same-outcome : (x y : Outcome) → outcomeOf x ≡ outcomeOf y → x ≡ y
+-- and no two outcomes
+pub same-outcome : (x y : Outcome) → outcomeOf x ≡ outcomeOf y → x ≡ y
 unfolding outcomeOf
 same-outcome Outcome.Done Outcome.Done e = refl
 same-outcome Outcome.Done (Outcome.Refused y) e = refused y (sym e)

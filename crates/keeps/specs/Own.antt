@@ -94,7 +94,7 @@ topped-up falls c q name j s =
 
 module _ (c : Config) (sz : Size (c .order)) (q : Request) (name : Name) (A : Asks c q name) (j : ℕ) where
   -- from a local; `up` leaves the rules standing
-  takeBy-fine : (up : ℕ → ℕ → State → Way)
+  pub takeBy-fine : (up : ℕ → ℕ → State → Way)
       → ((row free : ℕ) (s : State) → Holds (s .locals) j row free → Kept c (s .trees) (s .locals) (s .bits) → Fine c (q .order) name (s .bits) (up row free s))
       → (s : State) → Kept c (s .trees) (s .locals) (s .bits) → Fine c (q .order) name (s .bits) (takeBy up c q name j s)
   unfolding takeBy done missed missedAt putEntry setRow withTrees withLocals withTry

@@ -140,7 +140,7 @@ module _ (c : Config) (t l b : List ℕ) where
     missed-any : (q : Request) (name : Name) (s : State) → Fine c (q .order) name b (out Got.Missed s) → GetAny c q name b (telling 7 0 0 s)
     missed-any q name s F = record { kept = F .0; sound = λ x. omega (arith, x); loose = λ x. omega (arith, x); granted = λ x. absurd (omega (arith, x)); unchanged = λ _. F .1 }
 
-    close-keeps : (q : Request) (name : Name) (w : Way) → Fine c (q .order) name b w → GetKeeps c q name b (close w)
+    pub close-keeps : (q : Request) (name : Name) (w : Way) → Fine c (q .order) name b w → GetKeeps c q name b (close w)
     unfolding close
     close-keeps q name (out (Got.Done f k) s) F =
         record { any = record { kept = F .0; sound = λ x. omega (arith, x); loose = λ x. omega (arith, x); granted = λ _. F .1; unchanged = λ n. absurd (n refl) }; number = inl refl }

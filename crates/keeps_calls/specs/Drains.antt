@@ -48,7 +48,7 @@ class-end ps k =
 
 module _ (c : Config) (sz : Size (c .order)) (b : List ℕ) where
   -- n locals of class k from index i on
-  locals-drained : (n k i : ℕ) → k < 8 → i + n ≡ localsOf (c .places) k → (s : State) → Emptied c b (slot (c .places) k i) s
+  pub locals-drained : (n k i : ℕ) → k < 8 → i + n ≡ localsOf (c .places) k → (s : State) → Emptied c b (slot (c .places) k i) s
       → Drained c b (slot (c .places) k (localsOf (c .places) k)) (drainLocals n c k i s)
   unfolding drainLocals withTrees withLocals
   locals-drained zero k i lk e s E = let d : i ≡ localsOf (c .places) k = omega arith in subst (λ (x : ℕ). Emptied c b (slot (c .places) k x) s) d E
@@ -73,7 +73,7 @@ module _ (c : Config) (sz : Size (c .order)) (b : List ℕ) where
       go x lx (no d) = getD-set-other (s .locals) (slot (c .places) k i) x 0 0 d ∙ E .absent x (omega arith)
 
   -- n classes from k on
-  classes-drained : (n k : ℕ) → k + n ≡ 8 → (s : State) → Emptied c b (slot (c .places) k 0) s → Drained c b (slot (c .places) 8 0) (drainClasses n c k s)
+  pub classes-drained : (n k : ℕ) → k + n ≡ 8 → (s : State) → Emptied c b (slot (c .places) k 0) s → Drained c b (slot (c .places) 8 0) (drainClasses n c k s)
   unfolding drainClasses
   classes-drained zero k e s E = let d : k ≡ 8 = omega arith in subst (λ (x : ℕ). Emptied c b (slot (c .places) x 0) s) d E
   classes-drained (suc n) k e s E =

@@ -28,7 +28,7 @@ else-if true x s next = refl
 else-if false x s next = refl
 
 -- the near walk, then the far walk
-near-far : (c : Config) (q : Request) (j start : ℕ) (s : State) → searchFrom c q j start s ≡ orElse (nearFirst c q j start s) (searchFar c q j start)
+pub near-far : (c : Config) (q : Request) (j start : ℕ) (s : State) → searchFrom c q j start s ≡ orElse (nearFirst c q j start s) (searchFar c q j start)
 unfolding searchFrom nearFirst
 near-far c q j start s = else-if (ltb (q .order) (hugeOrder (c .order))) _ s (searchFar c q j start)
 

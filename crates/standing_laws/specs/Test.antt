@@ -97,7 +97,8 @@ module _ (c : Config) (ts ls bs : List ℕ) where
   unfolding classStands
   local-make h = all-make 8 (classStands c ts ls bs) (λ k lk. all-make (localsOf (c .places) k) (λ i. localStands c ts ls bs k (slot (c .places) k i)) (λ i li. h k i lk li))
 
-  apart-says : (i j : ℕ) → i < j → apartBefore (c .order) ls j ≡ true → localAt ls i .present ≡ true → localAt ls j .present ≡ true → treeOn (c .order) (localAt ls i) ≡ treeOn (c .order) (localAt ls j) → ⊥
+  -- two present locals that stand apart hold distinct trees
+  pub apart-says : (i j : ℕ) → i < j → apartBefore (c .order) ls j ≡ true → localAt ls i .present ≡ true → localAt ls j .present ≡ true → treeOn (c .order) (localAt ls i) ≡ treeOn (c .order) (localAt ls j) → ⊥
   unfolding apartBefore apart
   apart-says i j l e p q d =
       eqb-false _ _ (not-true _ (pick-at (localAt ls i .present) _ true (pick-at (localAt ls j .present) _ true (all-at j (λ i. apart (c .order) (localAt ls j) (localAt ls i)) e i l) q) p)) (sym d)
