@@ -2,3 +2,5 @@
 pub mod Chains
 -- they are chains of the promises
 pub mod Archive
+-- what a drain of the archive leaves
+pub mod Drains

@@ -5,3 +5,6 @@ pub mod Lent
 pub mod Refused
 pub mod Steps
 pub mod Sequence
+-- what a drain leaves that is Done
+pub mod DrainDone
+pub mod Drains
