@@ -1,3 +1,3 @@
 -- arguments as C hands them in, and statistics as C gets them
 pub mod Args
-pub mod Figures
+pub mod Summary

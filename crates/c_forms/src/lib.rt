@@ -2,19 +2,17 @@
 use rules::Given;
 use rules::Name;
 use rules::Request;
-use tallies::Rows;
-use tells::Stats;
+use ways::Totals;
 ghost use mathlib.Core.Path.{_≡_};
 ghost use Rattle.c_forms.specs.Args.{nameOf, givenOf, asking};
-ghost use Rattle.c_forms.specs.Figures.{figuresOf};
+ghost use Rattle.c_forms.specs.Summary.{summaryOf};
 
-// What statistics answer: the number, total free, free trees, and the rows of the eight classes; zeros where it is refused.
+// What statistics answer beside the lent rows: the number, total free, free trees.
 #[repr(C)]
-pub struct Figures {
+pub struct Summary {
     pub number: usize,
     pub free: usize,
     pub trees: usize,
-    pub rows: Rows,
 }
 
 // The frame that a get names, if it names one.
@@ -48,17 +46,14 @@ pub fn ask(order: usize, class: usize, given: bool, local: usize) -> Request
     }
 }
 
-// Statistics in numbers.
-pub fn figured(told: Stats) -> Figures
-    ensures { λ r. ⌜ r ≡ figuresOf told ⌝ }
+// What statistics answer, in numbers.
+pub fn summed(totals: Totals) -> Summary
+    ensures { λ r. ⌜ r ≡ summaryOf totals ⌝ }
 {
-    let totals = told.totals;
     let outcome = totals.outcome;
-    let all = told.rows;
-    Figures {
+    Summary {
         number: numbers::number(outcome),
         free: totals.free,
         trees: totals.trees,
-        rows: all,
     }
 }

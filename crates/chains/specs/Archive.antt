@@ -6,8 +6,8 @@ use mathlib.Core.List.{List, [], _∷_}
 use Prim.Native.Nat.{ℕ, zero, suc, _≤_}
 use native.Mathlib.Omega.{arith}
 use lib.Dec.{eqb}
-use lib.ListN.{length-replicate}
-use Rattle.rules.specs.Base.{ifte, both, Out, out}
+use lib.ListN.{length}
+use Rattle.rules.specs.Base.{both, Out, out}
 use Rattle.rules.specs.Words.{Config, config}
 use Rattle.rules.specs.Lower.{lowerPut}
 use Rattle.rules.specs.Policy.{accepted}
@@ -18,20 +18,18 @@ use Rattle.ways.specs.declared.Got.the-variants as Got
 use Rattle.ways.specs.State.{State, st, Way}
 use Rattle.ways.specs.Standing.{standing, lengthsExact}
 use Rattle.ways.specs.Get.{routes}
-use Rattle.ways.specs.Calls.{Told, telling, fresh, numberOf, outcomeOf, tellGet, told, refusal, close, frameOf, get, onGiven, put, drainClasses, closeDrain, drain, start}
-use Rattle.ways.specs.Statistics.{totalFree, freeTrees, reporting, toldTotals, statistics}
+use Rattle.ways.specs.Calls.{Told, telling, fresh, outcomeOf, tellGet, told, refusal, close, frameOf, get, onGiven, put, drainClasses, closeDrain, drain, start}
+use Rattle.ways.specs.declared.Tally.{Tally}
+use Rattle.ways.specs.Statistics.{Report, reporting, toldTotals, statistics}
 use Rattle.ways.specs.Promises.{Words}
 use Rattle.step_laws.specs.Steps.{ifte-ind}
 use Rattle.step_laws.specs.Checked.{refusal-range}
 use Rattle.step_laws.specs.Answers.{unless-ind, standing-ind}
-use Rattle.tallies.specs.Rows.{rows-tallies}
-use Rattle.tells.specs.Stats.{statsOf}
-use Rattle.complete.specs.Complete.{refusalOf, number-back}
+use Rattle.complete.specs.Complete.{number-back}
 use Rattle.sequence.specs.Demand.{Promised, Chain}
 use Rattle.sequence.specs.Sequence.{sequence, never-stuck}
-use Rattle.c_forms.specs.declared.Figures.{Figures}
-use Rattle.c_forms.specs.Figures.{figuresOf}
-use Rattle.chains.specs.Chains.{Call, gets, puts, drains, reports, starts, Answered, Calls, outcomeFrom, grantedFrom, emptyRows, totalsFrom, rowsFrom, stepOf, steps, ArchiveSequence}
+use Rattle.c_forms.specs.declared.Summary.{Summary}
+use Rattle.chains.specs.Chains.{Call, gets, puts, drains, reports, starts, Answered, Calls, outcomeFrom, grantedFrom, totalsFrom, stepOf, steps, ArchiveSequence}
 
 -- ---- what a call tells: a number up to 11, and of a get that is refused no frame and no class
 abbrev Few : Told → Type 0
@@ -84,6 +82,13 @@ module _ (c : Config) (t l b : List ℕ) where
   unfolding start
   start-few free = ifte-ind Few (both (accepted c) (lengthsExact c t l b)) _ _ (λ _. omega arith) (λ _. omega arith)
 
+  statistics-few : (rows : List Tally) → statistics c t l b rows .number ≤ 11
+  unfolding statistics
+  statistics-few rows =
+      ifte-ind (λ (x : Report). x .number ≤ 11) (standing c t l b) _ _
+      (λ _. ifte-ind (λ (x : Report). x .number ≤ 11) (eqb (length rows) 8) _ _ (λ _. omega arith) (λ _. omega arith))
+      (λ _. omega arith)
+
 -- ---- a number that is told is that of its outcome
 outcome-back : (n : ℕ) → n ≤ 11 → outcomeOf (outcomeFrom n) ≡ n
 unfolding outcomeOf
@@ -102,13 +107,10 @@ granted-back (suc n) f k s (inl z) = absurd (omega arith)
 granted-back (suc n) f k s (inr (h, (p, q))) =
     ap (λ (x : ℕ). telling x 0 0 s) (number-back (suc n) (omega arith) h) ∙ ap₂ (λ (x y : ℕ). telling (suc n) x y s) (sym p) (sym q)
 
--- ---- statistics by value are the statistics of rows of zeros
-figures-by : (c : Config) (ts ls bs : List ℕ) (n : ℕ) (u v : Bool) → standing c ts ls bs ≡ u → eqb n 8 ≡ v
-    → toldTotals (totalsFrom (figuresOf (statsOf c ts ls bs n))) (rowsFrom n (figuresOf (statsOf c ts ls bs n))) ≡ statistics c ts ls bs (emptyRows n)
-unfolding statsOf statistics ifte outcomeOf numberOf refusalOf
-figures-by c ts ls bs n true true p q = rw (length-replicate, p, q) (ap (reporting 0 (totalFree c ts ls) (freeTrees c ts ls)) (rows-tallies c ts ls))
-figures-by c ts ls bs n true false p q = rw (length-replicate, p, q)
-figures-by c ts ls bs n false v p q = rw p
+report-back : (r : Summary) (filled : List Tally) (x : Report) → x .number ≤ 11 → reporting (r .number) (r .free) (r .trees) filled ≡ x → toldTotals (totalsFrom r) filled ≡ x
+report-back r filled x few P =
+    let h : r .number ≤ 11 = omega (arith, few, ap (λ (y : Report). y .number) P) in
+    ap (λ (n : ℕ). reporting n (r .free) (r .trees) filled) (outcome-back (r .number) h) ∙ P
 
 module _ (h : Header) (pairs : List ℕ) where
   -- a call that satisfies its promise satisfies that of the function in Rattle
@@ -118,11 +120,7 @@ module _ (h : Header) (pairs : List ℕ) where
       (subst Plain (sym P) (get-plain (config h pairs) (s .trees) (s .locals) (s .bits) q name)) ∙ P
   promised (puts f q r) s e P = told-back r e _ (put-few (config h pairs) (s .trees) (s .locals) (s .bits) q f) P
   promised (drains r) s e P = told-back r e _ (drain-few (config h pairs) (s .trees) (s .locals) (s .bits)) P
-  promised (reports n r) s e (P, d) = (
-    subst (λ (x : Figures). toldTotals (totalsFrom x) (rowsFrom n x) ≡ statistics (config h pairs) (s .trees) (s .locals) (s .bits) (emptyRows n)) (sym P)
-        (figures-by (config h pairs) (s .trees) (s .locals) (s .bits) n _ _ refl refl),
-    d,
-  )
+  promised (reports rows r filled) s e (P, d) = (report-back r filled _ (statistics-few (config h pairs) (s .trees) (s .locals) (s .bits) rows) P, d)
   promised (starts d table free lent r left) s e (P, A) = (told-back r left _ (start-few (config d table) (lent .trees) (lent .locals) (lent .bits) free) P, A)
 
   -- and so every call of a chain

@@ -3,9 +3,6 @@ use mathlib.Core.Path.{_≡_}
 use mathlib.Core.Bool.{Bool}
 use mathlib.Core.List.{List, [], _∷_}
 use Prim.Native.Nat.{ℕ, zero, suc}
-use lib.Dec.{eqb}
-use lib.ListN.{replicate}
-use Rattle.rules.specs.Base.{pick}
 use Rattle.rules.specs.declared.Header.{Header}
 use Rattle.rules.specs.declared.Name.{Name}
 use Rattle.rules.specs.declared.Request.{Request}
@@ -16,23 +13,22 @@ use Rattle.ways.specs.declared.Granted.the-variants as Granted
 use Rattle.ways.specs.declared.Tally.{Tally}
 use Rattle.ways.specs.declared.Totals.{Totals}
 use Rattle.ways.specs.Promises.{Words}
-use Rattle.tallies.specs.Rows.{rowList}
 use Rattle.complete.specs.Complete.{refusalOf}
 use Rattle.sequence.specs.Demand.{Step, StateAfter, Chain, NoRestart, NoneStuck, Demand3}
 use Rattle.sequence.specs.Demand as Demand
 use Rattle.numbers.specs.declared.Answer.{Answer}
-use Rattle.c_forms.specs.declared.Figures.{Figures}
-use Rattle.llfree_c.specs.Promises.{StartNumber, GetAnswer, PutNumber, DrainNumber, FiguresAnswer}
+use Rattle.c_forms.specs.declared.Summary.{Summary}
+use Rattle.llfree_c.specs.Promises.{StartNumber, GetAnswer, PutNumber, DrainNumber, StatisticsAnswer}
 
 -- ---- a chain of the archive's calls, each on the words as the call before left them
 
--- a call, as the caller sees it: what was asked, and the numbers that were answered. A start in the chain names a header and a table of its own, and is lent words of
--- its own, as it finds them and as it leaves them: of any lengths, and any of them may be words of the state
+-- a call, as the caller sees it: what was asked, and the numbers that were answered; of statistics also the rows lent and the rows after. A start in the chain names a
+-- header and a table of its own, and is lent words of its own, as it finds them and as it leaves them: of any lengths, and any of them may be words of the state
 pub data Call : Type 0 where
   gets : Name → Request → Answer → Call
   puts : ℕ → Request → ℕ → Call
   drains : ℕ → Call
-  reports : ℕ → Figures → Call
+  reports : List Tally → Summary → List Tally → Call
   starts : Header → List ℕ → Bool → Words → ℕ → Words → Call
 
 -- from the words s to the words e the call satisfies the promise of the archive's function
@@ -40,7 +36,7 @@ abbrev pub Answered : Header → List ℕ → Call → Words → Words → Type 
 Answered h pairs (gets name q r) s e = GetAnswer h pairs name q s r e
 Answered h pairs (puts f q r) s e = PutNumber h pairs f q s r e
 Answered h pairs (drains r) s e = DrainNumber h pairs s r e
-Answered h pairs (reports n r) s e = FiguresAnswer h pairs s n r × (e ≡ s)
+Answered h pairs (reports rows r filled) s e = StatisticsAnswer h pairs s rows r filled × (e ≡ s)
 Answered h pairs (starts h' pairs' free lent r left) s e = StartNumber h' pairs' free lent r left × StateAfter lent left s e
 
 -- every call of the chain
@@ -60,24 +56,16 @@ abbrev pub grantedFrom : ℕ → ℕ → ℕ → Granted
 grantedFrom zero f k = Granted.Done f k
 grantedFrom (suc n) f k = Granted.Refused (refusalOf (suc n))
 
--- n rows of zeros
-abbrev pub emptyRows : ℕ → List Tally
-emptyRows n = replicate n (record { free = 0; alloc = 0; used = 0 })
-
--- statistics by value: the outcome, total free and free trees
-abbrev pub totalsFrom : Figures → Totals
+-- of statistics, with total free and free trees
+abbrev pub totalsFrom : Summary → Totals
 totalsFrom r = record { outcome = outcomeFrom (r .number); free = r .free; trees = r .trees }
-
--- and the rows, which a refusal leaves
-abbrev pub rowsFrom : ℕ → Figures → List Tally
-rowsFrom n r = pick (eqb (r .number) 0) (rowList (r .rows)) (emptyRows n)
 
 -- the call as a step of the chains of crate `sequence`
 abbrev pub stepOf : Call → Step
 stepOf (gets name q r) = Demand.gets name q (record { granted = grantedFrom (r .number) (r .frame) (r .class); looks = r .looks; tries = r .tries })
 stepOf (puts f q r) = Demand.puts f q (outcomeFrom r)
 stepOf (drains r) = Demand.drains (outcomeFrom r)
-stepOf (reports n r) = Demand.reports (emptyRows n) (totalsFrom r) (rowsFrom n r)
+stepOf (reports rows r filled) = Demand.reports rows (totalsFrom r) filled
 stepOf (starts h pairs free lent r left) = Demand.starts h pairs free lent (outcomeFrom r) left
 
 -- all of them

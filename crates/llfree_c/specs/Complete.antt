@@ -7,11 +7,13 @@ use Rattle.rules.specs.declared.Header.{Header}
 use Rattle.rules.specs.declared.Name.{Name}
 use Rattle.rules.specs.declared.Request.{Request}
 use Rattle.ways.specs.Calls.{Told, telling, fresh}
+use Rattle.ways.specs.declared.Tally.{Tally}
+use Rattle.ways.specs.Statistics.{Report}
 use Rattle.ways.specs.Promises.{Words}
 use Rattle.complete.specs.Complete.{same-words}
 use Rattle.numbers.specs.declared.Answer.{Answer}
-use Rattle.c_forms.specs.declared.Figures.{Figures}
-use Rattle.llfree_c.specs.Promises.{StartNumber, GetAnswer, PutNumber, DrainNumber, FiguresAnswer}
+use Rattle.c_forms.specs.declared.Summary.{Summary}
+use Rattle.llfree_c.specs.Promises.{StartNumber, GetAnswer, PutNumber, DrainNumber, StatisticsAnswer}
 
 -- a number and the words that it is told with
 told-once : (r q : ℕ) (e d : Words) → telling r 0 0 (fresh (e .trees) (e .locals) (e .bits)) ≡ telling q 0 0 (fresh (d .trees) (d .locals) (d .bits)) → (r ≡ q) × (e ≡ d)
@@ -29,7 +31,15 @@ same-answer r q a b d e f =
     ∙ ap (λ (x : ℕ). answer (q .number) (q .frame) (q .class) x (r .tries)) e
     ∙ ap (λ (x : ℕ). answer (q .number) (q .frame) (q .class) (q .looks) x) f
 
--- ---- the theorems: header, table, arguments and words before are the same; r and q are two answers, e and d the words after them
+summary : ℕ → ℕ → ℕ → Summary
+summary n f t = record { number = n; free = f; trees = t }
+
+same-summary : (r q : Summary) → r .number ≡ q .number → r .free ≡ q .free → r .trees ≡ q .trees → r ≡ q
+unfolding summary
+same-summary r q a b d =
+    ap (λ (x : ℕ). summary x (r .free) (r .trees)) a ∙ ap (λ (x : ℕ). summary (q .number) x (r .trees)) b ∙ ap (λ (x : ℕ). summary (q .number) (q .free) x) d
+
+-- ---- the theorems: header, table, arguments and words before are the same; r and q are two answers, e and d the words after them, f and g the rows
 module _ (h : Header) (pairs : List ℕ) (s : Words) where
   pub start-complete : (free : Bool) (r q : ℕ) (e d : Words) → StartNumber h pairs free s r e → StartNumber h pairs free s q d → (r ≡ q) × (e ≡ d)
   start-complete free r q e d P Q = told-once r q e d (P ∙ sym Q)
@@ -47,5 +57,9 @@ module _ (h : Header) (pairs : List ℕ) (s : Words) where
   pub drain-complete : (r q : ℕ) (e d : Words) → DrainNumber h pairs s r e → DrainNumber h pairs s q d → (r ≡ q) × (e ≡ d)
   drain-complete r q e d P Q = told-once r q e d (P ∙ sym Q)
 
-  pub figures-complete : (n : ℕ) (r q : Figures) → FiguresAnswer h pairs s n r → FiguresAnswer h pairs s n q → r ≡ q
-  figures-complete n r q P Q = P ∙ sym Q
+  pub statistics-complete : (rows : List Tally) (r q : Summary) (f g : List Tally) → StatisticsAnswer h pairs s rows r f → StatisticsAnswer h pairs s rows q g → (r ≡ q) × (f ≡ g)
+  statistics-complete rows r q f g P Q =
+      let T = P ∙ sym Q in (
+        same-summary r q (ap (λ (x : Report). x .number) T) (ap (λ (x : Report). x .free) T) (ap (λ (x : Report). x .trees) T),
+        ap (λ (x : Report). x .rows) T,
+      )

@@ -11,10 +11,10 @@ use Rattle.rules.specs.declared.Request.{Request}
 use Rattle.ways.specs.State.{st}
 use Rattle.ways.specs.Calls.{telling, fresh, start, get, put, drain}
 use Rattle.ways.specs.Promises.{Words}
-use Rattle.tells.specs.Stats.{statsOf}
+use Rattle.ways.specs.declared.Tally.{Tally}
+use Rattle.ways.specs.Statistics.{reporting, statistics}
 use Rattle.numbers.specs.declared.Answer.{Answer}
-use Rattle.c_forms.specs.declared.Figures.{Figures}
-use Rattle.c_forms.specs.Figures.{figuresOf}
+use Rattle.c_forms.specs.declared.Summary.{Summary}
 
 -- header h, table `pairs`, the words before; the number r, the words after
 abbrev pub StartNumber : Header → List ℕ → Bool → Words → ℕ → Words → Type 0
@@ -33,6 +33,6 @@ PutNumber h pairs f q s r e = telling r 0 0 (fresh (e .trees) (e .locals) (e .bi
 abbrev pub DrainNumber : Header → List ℕ → Words → ℕ → Words → Type 0
 DrainNumber h pairs s r e = telling r 0 0 (fresh (e .trees) (e .locals) (e .bits)) ≡ drain (config h pairs) (s .trees) (s .locals) (s .bits)
 
--- where so many tally rows are to be filled: the rows come by value
-abbrev pub FiguresAnswer : Header → List ℕ → Words → ℕ → Figures → Type 0
-FiguresAnswer h pairs s n r = r ≡ figuresOf (statsOf (config h pairs) (s .trees) (s .locals) (s .bits) n)
+-- statistics are lent the words to read, and tally rows to fill: number, total free and free trees, and the rows after
+abbrev pub StatisticsAnswer : Header → List ℕ → Words → List Tally → Summary → List Tally → Type 0
+StatisticsAnswer h pairs s rows r filled = reporting (r .number) (r .free) (r .trees) filled ≡ statistics (config h pairs) (s .trees) (s .locals) (s .bits) rows

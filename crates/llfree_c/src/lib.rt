@@ -1,10 +1,11 @@
 // The library for C and Rust: the exported calls with C types. Each answers with a number of document 01 on any arguments, table, header, lengths and words.
-use c_forms::Figures;
+use c_forms::Summary;
 use numbers::Answer;
 use rules::Header;
+use ways::Tally;
 ghost use Rattle.ways.specs.Promises.{words};
 ghost use Rattle.c_forms.specs.Args.{nameOf, asking};
-ghost use Rattle.llfree_c.specs.Promises.{StartNumber, GetAnswer, PutNumber, DrainNumber, FiguresAnswer};
+ghost use Rattle.llfree_c.specs.Promises.{StartNumber, GetAnswer, PutNumber, DrainNumber, StatisticsAnswer};
 
 // A start, all free or all held.
 #[no_mangle]
@@ -81,17 +82,18 @@ pub extern "C" fn llfree_drain(
     numbers::number(drain::drain(h, table, trees, locals, bits))
 }
 
-// Statistics, where so many tally rows are to be filled: the rows come by value.
+// Statistics. The lent rows are handed on, which is proved by a walk of the code: so it is thin, one call and its answer in numbers.
 #[no_mangle]
-pub extern "C" fn llfree_figures<'a>(
+pub extern "C" fn llfree_statistics<'a, 'b>(
     h: Header,
     table: &'a [u32; 64],
     trees: &'a [u32],
     locals: &'a [u64],
     bits: &'a [u64],
-    rows: usize,
-) -> Figures
-    ensures { λ r. ⌜ FiguresAnswer h (now (table .entry)) (words (now (trees .entry)) (now (locals .entry)) (now (bits .entry))) rows r ⌝ }
+    rows: &'b mut [Tally],
+) -> Summary
+    ensures { λ r. ⌜ StatisticsAnswer h (now (table .entry)) (words (now (trees .entry)) (now (locals .entry)) (now (bits .entry)))
+        (now (rows .entry)) r (now (rows .exit)) ⌝ }
 {
-    c_forms::figured(tells::tell(h, table, trees, locals, bits, rows))
+    c_forms::summed(statistics::statistics(h, table, trees, locals, bits, rows))
 }
