@@ -2,12 +2,13 @@
  * LLFree's upper layer as a library: start, get, put, drain, statistics over buffers that the caller lends.
  *
  * The library keeps nothing between calls and allocates nothing. The caller owns a header, a policy table and
- * three buffers of words, and lends them at each call. Every call answers with a number on any header, table,
- * lengths, words and arguments: nothing has to be tested first. The whole state is tested at each call but a start.
+ * three buffers of words, and lends them at each call; to statistics it lends tally rows too. Every call answers with
+ * a number on any header, table, lengths, words, rows and arguments: nothing has to be tested first. The whole state is
+ * tested at each call but a start.
  *
  * The caller's part: each pointer is valid for its length, aligned for its type and not null (where the length is 0,
- * as that of the locals where no class has any, the address of any word does), the buffers of one call do not
- * overlap, and no other thread uses them during the call.
+ * as that of the locals where no class has any, the address of any word or row of that type does), the buffers of one
+ * call do not overlap, the rows counted in, and no other thread uses them during the call.
  *
  * Link with libllfree_c.a (x86-64), which `rt staticlib llfree_c` makes. It asks for memcpy, memset, memmove and memcmp at most.
  *
@@ -27,7 +28,9 @@
  *         if (got.number != LLFREE_DONE) return 1;
  *         if (llfree_put(h, table, trees, n, locals, k, bits, w, got.frame, 3, 0, true, 0) != LLFREE_DONE) return 1;
  *         if (llfree_drain(h, table, trees, n, locals, k, bits, w) != LLFREE_DONE) return 1;
- *         return llfree_figures(h, table, trees, n, locals, k, bits, w, 8).free != 16384;
+ *         struct llfree_tally rows[LLFREE_CLASSES];
+ *         struct llfree_report all = llfree_statistics(h, table, trees, n, locals, k, bits, w, rows, LLFREE_CLASSES);
+ *         return all.number != LLFREE_DONE || all.free != 16384 || rows[0].used != 0;
  *     }
  */
 #ifndef LLFREE_H
@@ -54,6 +57,7 @@ extern "C" {
 /*
  * The numbered outcomes. They are tried in this order; a start tries only Config, statistics only Broken and Rows.
  * Done and Memory leave the buffers as the rules say, Stuck as the step before left them, all others unchanged.
+ * Tally rows are written by Done alone.
  */
 enum llfree_number {
     LLFREE_DONE = 0,       /* accepted */
@@ -123,19 +127,18 @@ struct llfree_reply {
     uint64_t tries;  /* lower calls; a get refused before the routes reports 0 and 0 */
 };
 
-/* A row of the statistics, for one class. */
+/* A row of the statistics: the caller lends eight, the row of class c at the index c. */
 struct llfree_tally {
     uint64_t free;  /* entry free of the class's trees and free of the class's locals */
     uint64_t alloc; /* 2,048 less the entry free, over the class's trees */
     uint64_t used;  /* frames in use: 2,048 for each tree of the class, less those entries' free, less the free of the reservations on them */
 };
 
-/* What statistics answer. A refused call returns zeros. */
+/* What statistics answer beside the rows. A refused call returns zeros for both sums. */
 struct llfree_report {
-    uint64_t number;             /* Done, Broken or Rows */
-    uint64_t free;               /* total free: entries and locals */
-    uint64_t trees;              /* free trees: each entry's and each local's free / 2,048, rounded down, then summed */
-    struct llfree_tally rows[8]; /* one for each class */
+    uint64_t number; /* Done, Broken or Rows */
+    uint64_t free;   /* total free: entries and locals */
+    uint64_t trees;  /* free trees: each entry's and each local's free / 2,048, rounded down, then summed */
 };
 
 /*
@@ -175,11 +178,13 @@ uint64_t llfree_drain(struct llfree_header header, const uint32_t table[64],
                       uint64_t *bits, size_t bits_len);
 
 /*
- * Statistics: Done; Broken; Rows where `rows` is not 8. The words are only read; the eight rows come by value.
+ * Statistics: Done; Broken; Rows where `rows_len` is not 8. The words are only read.
+ * Done writes every field of the eight rows, whatever they held, zeros for an unconfigured class. Broken and Rows write none.
  */
-struct llfree_report llfree_figures(struct llfree_header header, const uint32_t table[64],
-                                    const uint32_t *trees, size_t trees_len, const uint64_t *locals,
-                                    size_t locals_len, const uint64_t *bits, size_t bits_len, uint64_t rows);
+struct llfree_report llfree_statistics(struct llfree_header header, const uint32_t table[64],
+                                       const uint32_t *trees, size_t trees_len, const uint64_t *locals,
+                                       size_t locals_len, const uint64_t *bits, size_t bits_len,
+                                       struct llfree_tally *rows, size_t rows_len);
 
 #ifdef __cplusplus
 }

@@ -9,6 +9,8 @@ static uint32_t trees[8];
 static uint64_t locals[4];
 static uint64_t bits[256];
 static size_t n, k, w;
+/* Up to nine tally rows are lent from the second on; the first and the last are never lent. */
+static struct llfree_tally rows[11], before[11];
 static int bad;
 
 static void check(const char *name, bool right) {
@@ -42,6 +44,30 @@ static struct llfree_reply get(int64_t frame, uint64_t order, uint64_t class_, i
 
 static bool is(struct llfree_reply r, uint64_t number, uint64_t frame, uint64_t class_, uint64_t looks, uint64_t tries) {
     return r.number == number && r.frame == frame && r.class_ == class_ && r.looks == looks && r.tries == tries;
+}
+
+/* Statistics with so many rows; every field of every row holds a number of its own before, which no statistics give. */
+static struct llfree_report statistics(size_t lent) {
+    for (uint64_t i = 0; i < 11; i++) {
+        uint64_t own = 0xa5a5a5a500000000 + 3 * i;
+        before[i] = (struct llfree_tally){.free = own, .alloc = own + 1, .used = own + 2};
+    }
+    memcpy(rows, before, sizeof rows);
+    return llfree_statistics(header, table, trees, n, locals, k, bits, w, rows + 1, lent);
+}
+
+/* Refused with this number: both sums are 0, and every row is as it was. */
+static bool refused(size_t lent, uint64_t number) {
+    struct llfree_report t = statistics(lent);
+    return t.number == number && t.free == 0 && t.trees == 0 && memcmp(rows, before, sizeof rows) == 0;
+}
+
+/* Done with these sums: every lent row is written, those of classes 0 and 1 with these figures, and no row beside them. */
+static bool tallied(uint64_t free, uint64_t whole, struct llfree_tally zero, struct llfree_tally one) {
+    struct llfree_report t = statistics(8);
+    struct llfree_tally want[8] = {zero, one};
+    bool beside = memcmp(rows, before, sizeof *rows) == 0 && memcmp(rows + 9, before + 9, 2 * sizeof *rows) == 0;
+    return t.number == LLFREE_DONE && t.free == free && t.trees == whole && memcmp(rows + 1, want, sizeof want) == 0 && beside;
 }
 
 /* The state of E7: after E1, local free 0, entry 7's free `free`, of tree 7 only the last `free` frames clear. */
@@ -98,13 +124,19 @@ int main(void) {
     right = right && llfree_put(header, table, trees, n, locals, k, bits, w, 14336, 0, 0, true, 2) == LLFREE_LOCAL;
     right = right && llfree_put(header, table, trees, n, locals, k, bits, w, 14336, 0, 0, true, 0) == LLFREE_DONE;
     check("put", right && locals[0] == 0x80800000000000E0 && bits[224] == 0);
-    right = llfree_drain(header, table, trees, n, locals, k, bits, w) == LLFREE_DONE;
+    right = get(-1, 0, 0, 0).number == LLFREE_DONE;
+    right = right && tallied(16383, 7, (struct llfree_tally){2047, 2048, 1}, (struct llfree_tally){14336, 0, 0});
+    check("statistics", right);
+    right = llfree_put(header, table, trees, n, locals, k, bits, w, 14336, 0, 0, true, 0) == LLFREE_DONE;
+    right = right && llfree_drain(header, table, trees, n, locals, k, bits, w) == LLFREE_DONE;
     check("drain", right && locals[0] == 0 && trees[7] == 0x20000800);
     check("a length", llfree_drain(header, table, trees, n - 1, locals, k, bits, w) == LLFREE_BROKEN);
-    struct llfree_report t = llfree_figures(header, table, trees, n, locals, k, bits, w, 8);
-    right = t.number == LLFREE_DONE && t.free == 16384 && t.trees == 8 && t.rows[1].free == 16384 && t.rows[1].alloc == 0;
-    check("statistics", right && t.rows[1].used == 0 && t.rows[0].free == 0 && t.rows[7].used == 0);
-    t = llfree_figures(header, table, trees, n, locals, k, bits, w, 7);
-    check("rows", t.number == LLFREE_ROWS && t.free == 0 && t.trees == 0 && t.rows[1].free == 0);
+    check("statistics of a drained store", tallied(16384, 8, (struct llfree_tally){0}, (struct llfree_tally){16384, 0, 0}));
+    check("no rows", refused(0, LLFREE_ROWS));
+    check("seven rows", refused(7, LLFREE_ROWS));
+    check("nine rows", refused(9, LLFREE_ROWS));
+    bits[0] ^= 1;
+    check("statistics of a broken state", refused(8, LLFREE_BROKEN));
+    check("Broken before Rows", refused(7, LLFREE_BROKEN) && refused(9, LLFREE_BROKEN));
     return bad;
 }

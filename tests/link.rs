@@ -1,5 +1,5 @@
 //! E1 to E12 of document 01 through the Rust binding, and the statistics. Prints `ok NAME` or `FAILED NAME` for each.
-use llfree::{Frames, Got, Header, Pair, Refusal, Request, Table};
+use llfree::{Frames, Got, Header, Pair, Refusal, Request, Table, Tally, Totals};
 
 struct Lent {
     header: Header,
@@ -34,6 +34,12 @@ impl Lent {
     fn get(&mut self, frame: Option<u64>, order: u64, class: u64, local: Option<u64>) -> Got {
         self.frames().get(frame, Request { order, class, local })
     }
+    /// Statistics with so many rows, and the rows as they are left. Before, each field holds a number of its own, which no
+    /// statistics give.
+    fn statistics(&mut self, lent: usize) -> (Result<Totals, Refusal>, Vec<Tally>) {
+        let mut rows = marked(lent);
+        (self.frames().statistics(&mut rows), rows)
+    }
     /// The state of E7: after E1, local free 0, entry 7's free `free`, of tree 7 only the last `free` frames clear.
     fn seventh(free: u32) -> Self {
         let mut s = Self::started(16384, 2);
@@ -48,6 +54,24 @@ impl Lent {
 
 fn done(frame: u64, class: u64, looks: u64, tries: u64) -> Got {
     Got { answer: Ok((frame, class)), looks, tries }
+}
+
+/// So many rows, each field with a number of its own.
+fn marked(count: usize) -> Vec<Tally> {
+    let own = |i| 0xa5a5_a5a5_0000_0000 + 3 * i as u64;
+    (0..count).map(|i| Tally { free: own(i), alloc: own(i) + 1, used: own(i) + 2 }).collect()
+}
+
+/// Refused statistics, with so many rows that are as they were.
+fn unwritten(refusal: Refusal, lent: usize) -> (Result<Totals, Refusal>, Vec<Tally>) {
+    (Err(refusal), marked(lent))
+}
+
+/// Statistics that are Done: these sums, these rows for classes 0 and 1, zeros for the others.
+fn tallied(free: u64, trees: u64, zero: Tally, one: Tally) -> (Result<Totals, Refusal>, Vec<Tally>) {
+    let mut rows = vec![Tally::default(); 8];
+    (rows[0], rows[1]) = (zero, one);
+    (Ok(Totals { free, trees }), rows)
 }
 
 fn early(refusal: Refusal) -> Got {
@@ -99,12 +123,19 @@ fn main() {
     right &= s.frames().put(14336, Request { local: Some(2), ..q }) == Err(Refusal::Local);
     right &= s.frames().put(14336, q) == Ok(());
     check("put", right && s.locals[0] == 0x8080_0000_0000_00E0 && s.bits[224] == 0);
-    check("drain", s.frames().drain() == Ok(()) && s.locals[0] == 0 && s.trees[7] == 0x2000_0800);
-    let all = s.frames().figures(8).expect("statistics");
-    let right = all.free == 16384 && all.trees == 8 && all.rows[1] == llfree::Tally { free: 16384, alloc: 0, used: 0 };
-    check("statistics", right && all.rows[0] == llfree::Tally::default());
-    check("rows", s.frames().figures(7) == Err(Refusal::Rows));
+    let right = s.get(None, 0, 0, Some(0)).answer.is_ok();
+    let (zero, one) = (Tally { free: 2047, alloc: 2048, used: 1 }, Tally { free: 14336, alloc: 0, used: 0 });
+    check("statistics", right && s.statistics(8) == tallied(16383, 7, zero, one));
+    let right = s.frames().put(14336, q) == Ok(());
+    check("drain", right && s.frames().drain() == Ok(()) && s.locals[0] == 0 && s.trees[7] == 0x2000_0800);
+    let one = Tally { free: 16384, alloc: 0, used: 0 };
+    check("statistics of a drained store", s.statistics(8) == tallied(16384, 8, Tally::default(), one));
+    check("no rows", s.statistics(0) == unwritten(Refusal::Rows, 0));
+    check("seven rows", s.statistics(7) == unwritten(Refusal::Rows, 7));
+    check("nine rows", s.statistics(9) == unwritten(Refusal::Rows, 9));
     s.trees.pop();
+    check("statistics of a broken state", s.statistics(8) == unwritten(Refusal::Broken, 8));
+    check("Broken before Rows", s.statistics(7) == unwritten(Refusal::Broken, 7));
     check("a length", s.frames().drain() == Err(Refusal::Broken));
     std::process::exit(bad);
 }

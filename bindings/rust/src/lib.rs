@@ -1,13 +1,13 @@
 //! LLFree's upper layer, proved, behind safe Rust: start, get, put, drain, statistics over words that the caller lends.
 //! No dependencies. Nothing is tested here that the library tests itself: every call answers on any header, table,
-//! lengths, words and arguments.
+//! lengths, words, rows and arguments.
 //!
 //! Build with Cargo: the archive is taken from target/staticlib, where `rt staticlib llfree_c` puts it, or from the folder
 //! that LLFREE_ARCHIVE names. Without Cargo, FOLDER being that of libllfree_c.a:
 //! `rustc --edition 2024 -O --crate-type rlib --crate-name llfree -L FOLDER -l static=llfree_c src/lib.rs`.
 //!
 //! ```
-//! use llfree::{Frames, Header, Pair, Table, Request};
+//! use llfree::{Frames, Header, Pair, Request, Table, Tally};
 //! // two classes with two locals each; default 1; table: (0,0), (1,1) Match, (0,1) Demote, (1,0) Steal
 //! let header = Header::new(16_384, 1, [Some(2), Some(2), None, None, None, None, None, None]);
 //! let table = Table::new()
@@ -22,6 +22,9 @@
 //! assert_eq!(got.answer, Ok((14_336, 0)));
 //! frames.put(14_336, Request { order: 0, class: 0, local: Some(0) }).unwrap();
 //! frames.drain().unwrap();
+//! let mut rows = [Tally::default(); 8];
+//! assert_eq!(frames.statistics(&mut rows).unwrap().free, 16_384);
+//! assert_eq!(rows[1].used, 0);
 //! ```
 #![no_std]
 
@@ -171,12 +174,11 @@ pub struct Tally {
     pub used: u64,
 }
 
-/// Total free, free trees, and a row for each class.
+/// What statistics answer beside the rows: total free and free trees.
 #[derive(Clone, Copy, PartialEq, Eq, Debug)]
-pub struct Figures {
+pub struct Totals {
     pub free: u64,
     pub trees: u64,
-    pub rows: [Tally; 8],
 }
 
 #[repr(C)]
@@ -193,7 +195,6 @@ struct RawReport {
     number: u64,
     free: u64,
     trees: u64,
-    rows: [Tally; 8],
 }
 
 unsafe extern "C" {
@@ -201,7 +202,7 @@ unsafe extern "C" {
     fn llfree_get(h: Header, table: *const u32, trees: *mut u32, n: usize, locals: *mut u64, k: usize, bits: *mut u64, w: usize, named: bool, frame: u64, order: u64, class: u64, given: bool, local: u64) -> RawReply;
     fn llfree_put(h: Header, table: *const u32, trees: *mut u32, n: usize, locals: *mut u64, k: usize, bits: *mut u64, w: usize, frame: u64, order: u64, class: u64, given: bool, local: u64) -> u64;
     fn llfree_drain(h: Header, table: *const u32, trees: *mut u32, n: usize, locals: *mut u64, k: usize, bits: *mut u64, w: usize) -> u64;
-    fn llfree_figures(h: Header, table: *const u32, trees: *const u32, n: usize, locals: *const u64, k: usize, bits: *const u64, w: usize, rows: u64) -> RawReport;
+    fn llfree_statistics(h: Header, table: *const u32, trees: *const u32, n: usize, locals: *const u64, k: usize, bits: *const u64, w: usize, rows: *mut Tally, rows_len: usize) -> RawReport;
 }
 
 /// Header, table and the lent words. Exact lengths are `header.trees()`, `header.locals()` and `header.words()`.
@@ -213,7 +214,7 @@ pub struct Frames<'a> {
     pub bits: &'a mut [u64],
 }
 
-// Every pointer below is a slice's, with its length; the three are lent apart from each other by the borrow checker.
+// Every pointer below is a slice's, with its length; the buffers, rows too, are lent apart from each other by the borrow checker.
 impl Frames<'_> {
     /// A start, all free or all held. Every lent word is written, or, refused with Config, none.
     pub fn start(&mut self, all_free: bool) -> Result<(), Refusal> {
@@ -258,14 +259,14 @@ impl Frames<'_> {
         })
     }
 
-    /// Statistics, where so many rows are wanted: eight, one for each class.
-    pub fn figures(&self, rows: u64) -> Result<Figures, Refusal> {
+    /// Statistics. Each of the eight rows, one for each class, is written, or, refused with Broken or with Rows where they are not eight, none.
+    pub fn statistics(&self, rows: &mut [Tally]) -> Result<Totals, Refusal> {
         let r = unsafe {
-            llfree_figures(
+            llfree_statistics(
                 self.header, self.table.0.as_ptr(), self.trees.as_ptr(), self.trees.len(), self.locals.as_ptr(),
-                self.locals.len(), self.bits.as_ptr(), self.bits.len(), rows,
+                self.locals.len(), self.bits.as_ptr(), self.bits.len(), rows.as_mut_ptr(), rows.len(),
             )
         };
-        Refusal::of(r.number).map(|()| Figures { free: r.free, trees: r.trees, rows: r.rows })
+        Refusal::of(r.number).map(|()| Totals { free: r.free, trees: r.trees })
     }
 }
