@@ -139,8 +139,8 @@ pub fn limits(s: &State) -> Vec<Command> {
     all
 }
 
-/// Lent tally rows.
-pub const ROWS: [usize; 6] = [0, 1, 7, 8, 9, usize::MAX];
+/// Lent tally rows; the last number has 8 in its lowest byte.
+pub const ROWS: [usize; 6] = [0, 1, 7, 8, 9, 264];
 
 // The damage.
 
@@ -212,9 +212,10 @@ pub fn random_lengths(r: &mut Random, raw: &mut Raw) {
     for _ in 0..1 + r.below(2) {
         let any = r.next();
         let fill = r.pick(&[0, any, u64::MAX]);
-        match r.below(3) {
+        match r.below(4) {
             0 => raw.trees.resize(other_length(r, raw.trees.len()).min(WIDE_TREES), fill as u32),
             1 => raw.locals.resize(other_length(r, raw.locals.len()).min(ROOM_LOCALS + 1), fill),
+            2 => raw.rows = r.pick(&ROWS),
             _ => raw.bitmap.resize(other_length(r, raw.bitmap.len()).min(32 * WIDE_TREES), fill),
         }
     }

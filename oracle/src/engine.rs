@@ -40,6 +40,8 @@ pub struct Got {
     pub tries: u64,
 }
 
+/// A row of the statistics, laid out as the library takes it.
+#[repr(C)]
 #[derive(Clone, Copy, PartialEq, Eq, Debug, Default)]
 pub struct Tally {
     pub free: u64,
@@ -47,6 +49,7 @@ pub struct Tally {
     pub used: u64,
 }
 
+/// What statistics answer, with the rows that are then filled; zeros where they are refused.
 #[derive(Clone, Copy, PartialEq, Eq, Debug, Default)]
 pub struct Counted {
     pub number: u8,

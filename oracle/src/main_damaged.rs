@@ -8,6 +8,7 @@ mod damage;
 mod domain;
 mod engine;
 mod generate;
+mod guarded;
 mod line;
 mod model;
 mod planted;
@@ -171,7 +172,7 @@ impl Driver {
             return Some("a word is changed");
         }
         if !self.lending.guards_stand(&self.raw) {
-            return Some("a word outside the lent ones, or of the table, is changed");
+            return Some("a word outside the lent ones, of the table, or of a row not to be filled, is changed");
         }
         None
     }

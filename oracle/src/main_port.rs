@@ -1,4 +1,4 @@
-//! `port CALLS SEED [MISREADING]`: generated calls through the port's archive, the oracle and the second model: answer, counts and every word after every call.
+//! `port CALLS SEED [MISREADING]`: generated calls through the port's archive, the oracle and the second model: answer, counts and every word after every call, every tally row after statistics.
 
 #![allow(dead_code)]
 
@@ -6,6 +6,7 @@ mod coverage;
 mod domain;
 mod engine;
 mod generate;
+mod guarded;
 mod line;
 mod model;
 mod port;
@@ -16,6 +17,7 @@ use std::time::Instant;
 
 use engine::Said;
 use generate::{Options, Sink, Sizes, scenario};
+use guarded::Rows;
 use line::{Answer, Command, perform};
 use model::Model;
 use port::Port;
@@ -85,6 +87,9 @@ impl Sink for Three {
         if by_port != by_model || !self.of_port.same_words(&self.of_model) {
             self.differ(&c, "second model", &by_model, &by_port);
         }
+        if !self.port.rows.stand() {
+            self.differ(&c, "rows as lent", &by_model, &by_port);
+        }
         if answered(&by_oracle) {
             if by_port != by_oracle || !self.of_port.same_words(&self.of_oracle) {
                 self.differ(&c, "Rust", &by_oracle, &by_port);
@@ -113,7 +118,7 @@ fn main() {
     let mut three = Three {
         model: Model::new(misreading),
         oracle: Oracle::new(),
-        port: Port,
+        port: Port { rows: Rows::new() },
         of_model: State::with_room(WIDE_TREES),
         of_oracle: State::with_room(WIDE_TREES),
         of_port: State::with_room(WIDE_TREES),

@@ -1,6 +1,7 @@
 //! The port: the library's archive, run on a store's words or on any header, table and buffers.
 
 use crate::engine::{Ask, Counted, Engine, Got, Said, Tally};
+use crate::guarded::Rows;
 use crate::state::State;
 
 /// The header as the library takes it: a class's place is its number of locals plus one, 0 where it is unconfigured.
@@ -22,19 +23,10 @@ struct Reply {
 }
 
 #[repr(C)]
-#[derive(Clone, Copy)]
-struct Row {
-    free: u64,
-    alloc: u64,
-    used: u64,
-}
-
-#[repr(C)]
 struct Report {
     number: u64,
     free: u64,
     trees: u64,
-    rows: [Row; 8],
 }
 
 unsafe extern "C" {
@@ -44,7 +36,8 @@ unsafe extern "C" {
     fn llfree_put(h: Header, table: *const u32, t: *mut u32, tn: usize, l: *mut u64, ln: usize, b: *mut u64, bn: usize,
         frame: u64, order: u64, class: u64, given: bool, local: u64) -> u64;
     fn llfree_drain(h: Header, table: *const u32, t: *mut u32, tn: usize, l: *mut u64, ln: usize, b: *mut u64, bn: usize) -> u64;
-    fn llfree_figures(h: Header, table: *const u32, t: *const u32, tn: usize, l: *const u64, ln: usize, b: *const u64, bn: usize, rows: usize) -> Report;
+    fn llfree_statistics(h: Header, table: *const u32, t: *const u32, tn: usize, l: *const u64, ln: usize, b: *const u64, bn: usize,
+        rows: *mut Tally, rn: usize) -> Report;
 }
 
 /// What a call is lent.
@@ -89,10 +82,11 @@ impl Lent<'_> {
     pub fn drain(self) -> u8 {
         small(call!(self, llfree_drain))
     }
-    pub fn stats(self, rows: usize) -> Counted {
-        let a = call!(self, llfree_figures, rows);
-        let rows = a.rows.map(|r| Tally { free: r.free, alloc: r.alloc, used: r.used });
-        Counted { number: small(a.number), free: a.free, trees: a.trees, rows }
+    /// Statistics with so many rows.
+    pub fn stats(self, rows: &mut Rows, count: usize) -> Counted {
+        let lent = rows.lend(count);
+        let a = call!(self, llfree_statistics, lent.as_mut_ptr(), lent.len());
+        Counted { number: small(a.number), free: a.free, trees: a.trees, rows: rows.left(a.number == 0) }
     }
 }
 
@@ -112,7 +106,10 @@ fn lent<'a>(s: &'a mut State, table: &'a [u32; 64]) -> Lent<'a> {
     Lent { header: header(s), table, trees: &mut s.trees[..t], locals: &mut s.locals[..l], bitmap: &mut s.bitmap[..b] }
 }
 
-pub struct Port;
+/// The port, with the rows that it was lent last.
+pub struct Port {
+    pub rows: Rows,
+}
 
 impl Engine for Port {
     fn start(&mut self, s: &mut State, free: bool) -> Said<u8> {
@@ -132,7 +129,7 @@ impl Engine for Port {
         Said::Is(lent(s, &table).drain())
     }
     fn stats(&mut self, s: &mut State) -> Said<Counted> {
-        let (table, rows) = (table(s), s.rows);
-        Said::Is(lent(s, &table).stats(rows))
+        let (table, count) = (table(s), s.rows);
+        Said::Is(lent(s, &table).stats(&mut self.rows, count))
     }
 }

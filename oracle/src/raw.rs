@@ -1,6 +1,7 @@
 //! A store as the library takes it: any header, any table words, buffers of any lengths; and the same between guard words.
 
 use crate::engine::Said;
+use crate::guarded::{Guarded, Rows};
 use crate::line::{Answer, Command};
 use crate::port::{Header, Lent, header, table};
 use crate::state::{Pair, State};
@@ -79,41 +80,11 @@ impl Raw {
     }
 }
 
-/// Guard words on either side.
-pub const GUARDS: usize = 16;
-
-/// Words between guard words, which no call may write.
-pub struct Guarded<T> {
-    pub words: Vec<T>,
-    guard: T,
-}
-impl<T: Copy + PartialEq> Guarded<T> {
-    pub fn new(guard: T) -> Self {
-        Guarded { words: Vec::new(), guard }
-    }
-    fn load(&mut self, from: &[T]) {
-        self.words.clear();
-        self.words.resize(GUARDS, self.guard);
-        self.words.extend_from_slice(from);
-        self.words.resize(from.len() + 2 * GUARDS, self.guard);
-    }
-    pub fn lent(&mut self) -> &mut [T] {
-        let end = self.words.len() - GUARDS;
-        &mut self.words[GUARDS..end]
-    }
-    fn holds(&self, lent: &[T]) -> bool {
-        self.words[GUARDS..self.words.len() - GUARDS] == *lent
-    }
-    fn guards_stand(&self) -> bool {
-        let end = self.words.len() - GUARDS;
-        self.words[..GUARDS].iter().chain(&self.words[end..]).all(|w| *w == self.guard)
-    }
-}
-
 /// What the port is lent in a call.
 pub struct Lending {
     header: Header,
-    rows: usize,
+    count: usize,
+    pub rows: Rows,
     pub table: Guarded<u32>,
     pub trees: Guarded<u32>,
     pub locals: Guarded<u64>,
@@ -124,7 +95,8 @@ impl Lending {
         let (small, large) = (0xa5c3_961b, 0xa5c3_961b_7e2d_4f80);
         let mut new = Lending {
             header: of.header,
-            rows: of.rows,
+            count: of.rows,
+            rows: Rows::new(),
             table: Guarded::new(small),
             trees: Guarded::new(small),
             locals: Guarded::new(large),
@@ -135,7 +107,7 @@ impl Lending {
     }
     pub fn load(&mut self, from: &Raw) {
         self.header = from.header;
-        self.rows = from.rows;
+        self.count = from.rows;
         self.table.load(&from.table);
         self.trees.load(&from.trees);
         self.locals.load(&from.locals);
@@ -143,7 +115,6 @@ impl Lending {
     }
     /// The port's answer to a call.
     pub fn call(&mut self, c: &Command) -> Answer {
-        let rows = self.rows;
         let table: &[u32; 64] = (&*self.table.lent()).try_into().expect("64 words");
         let lent = Lent {
             header: self.header,
@@ -157,7 +128,7 @@ impl Lending {
             Command::Get(ask) => Answer::Get(Said::Is(lent.get(ask))),
             Command::Put(ask) => Answer::Put(Said::Is(lent.put(ask))),
             Command::Drain => Answer::Drain(Said::Is(lent.drain())),
-            Command::Stats => Answer::Stats(Said::Is(lent.stats(rows))),
+            Command::Stats => Answer::Stats(Said::Is(lent.stats(&mut self.rows, self.count))),
             _ => Answer::Nothing,
         }
     }
@@ -167,12 +138,13 @@ impl Lending {
     pub fn unchanged(&self, from: &Raw) -> bool {
         self.trees.holds(&from.trees) && self.locals.holds(&from.locals) && self.bitmap.holds(&from.bitmap)
     }
-    /// The guard words and the table, which is only read.
+    /// The guard words, the table, which is only read, and the tally rows that are not to be filled.
     pub fn guards_stand(&self, from: &Raw) -> bool {
         self.table.holds(&from.table)
             && self.table.guards_stand()
             && self.trees.guards_stand()
             && self.locals.guards_stand()
             && self.bitmap.guards_stand()
+            && self.rows.stand()
     }
 }
