@@ -57,7 +57,7 @@ fn warm(h: Header, words: &Words, calls: Vec<Call>) -> Case {
 
 fn whole_state(to: &mut Cases, n: usize) {
     let (h, words) = (header(n), reserved(n));
-    for (name, call) in [("state test", Call::Stands), ("statistics", Call::Figures), ("drain", Call::Drain)] {
+    for (name, call) in [("state test", Call::Stands), ("statistics", Call::Statistics), ("drain", Call::Drain)] {
         to.add(Kind::Call, name, n, warm(h, &words, vec![call]));
     }
     let part = Header { frames: h.frames - 700, ..h };

@@ -6,7 +6,7 @@ use std::time::Instant;
 
 use crate::port::Port;
 use crate::rust::Rust;
-use crate::side::{Call, Header, Side, Table, Words};
+use crate::side::{Call, Header, Report, Side, Table, Tally, Words};
 
 const SAMPLES: usize = 40;
 /// Seconds of one sample with all that belongs to it, about.
@@ -148,14 +148,20 @@ pub fn row(cases: &[&Case]) -> Vec<Times> {
     times
 }
 
-/// The two sides answer each call alike and leave the same words.
+/// What a side's statistics tell, on rows that hold numbers which no statistics give.
+fn told(side: &mut impl Side) -> (Report, [Tally; 8]) {
+    let mut rows = [Tally { free: usize::MAX, alloc: usize::MAX, used: usize::MAX }; 8];
+    (side.statistics(&mut rows), rows)
+}
+
+/// The two sides answer each call alike, tell the same statistics and leave the same words.
 pub fn agree(p: &mut impl Side, r: &mut impl Side, words: &Words, calls: &[Call], want: usize) {
     p.set(words);
     r.set(words);
     for &c in calls {
         let (a, b) = (p.call(c), r.call(c));
         assert!(a == b && a.number == want, "{c:?}: port {a:?}, Rust {b:?}, wanted {want}");
-        assert_eq!(p.figures(), r.figures(), "figures after {c:?}");
+        assert_eq!(told(p), told(r), "statistics after {c:?}");
         assert!(p.words() == r.words(), "words after {c:?}");
     }
 }

@@ -3,7 +3,7 @@
 use std::hint::black_box;
 
 use crate::measure::flush;
-use crate::side::{Ask, Figures, Header, Reply, Side, Table, Words};
+use crate::side::{Ask, Header, Reply, Report, Side, Table, Tally, Words};
 
 #[rustfmt::skip]
 unsafe extern "C" {
@@ -14,7 +14,8 @@ unsafe extern "C" {
     fn llfree_put(h: Header, table: *const u32, t: *mut u32, tn: usize, l: *mut u64, ln: usize, b: *mut u64, bn: usize,
         frame: usize, order: usize, class: usize, given: bool, local: usize) -> usize;
     fn llfree_drain(h: Header, table: *const u32, t: *mut u32, tn: usize, l: *mut u64, ln: usize, b: *mut u64, bn: usize) -> usize;
-    fn llfree_figures(h: Header, table: *const u32, t: *const u32, tn: usize, l: *const u64, ln: usize, b: *const u64, bn: usize, rows: usize) -> Figures;
+    fn llfree_statistics(h: Header, table: *const u32, t: *const u32, tn: usize, l: *const u64, ln: usize, b: *const u64, bn: usize,
+        rows: *mut Tally, rn: usize) -> Report;
 }
 
 pub struct Port {
@@ -72,9 +73,12 @@ impl Side for Port {
         let (h, p, w) = (self.h, self.table.as_ptr(), &mut self.w);
         unsafe { llfree_drain(h, p, w.trees.as_mut_ptr(), w.trees.len(), w.locals.as_mut_ptr(), w.locals.len(), w.bits.as_mut_ptr(), w.bits.len()) }
     }
-    fn figures(&mut self) -> Figures {
+    fn statistics(&mut self, rows: &mut [Tally; 8]) -> Report {
         let (h, p, w) = (self.h, self.table.as_ptr(), &self.w);
-        unsafe { llfree_figures(h, p, w.trees.as_ptr(), w.trees.len(), w.locals.as_ptr(), w.locals.len(), w.bits.as_ptr(), w.bits.len(), 8) }
+        unsafe {
+            llfree_statistics(h, p, w.trees.as_ptr(), w.trees.len(), w.locals.as_ptr(), w.locals.len(), w.bits.as_ptr(), w.bits.len(),
+                rows.as_mut_ptr(), rows.len())
+        }
     }
     fn stands(&self) -> bool {
         let (h, p, w) = (black_box(self.h), self.table.as_ptr(), &self.w);

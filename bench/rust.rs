@@ -9,7 +9,7 @@ use llfree::{Alloc, Class, Classing, FrameId, Init, LLFree, MetaData, Policy};
 
 use crate::measure::flush;
 use crate::parts::plain;
-use crate::side::{Ask, Figures, Header, Reply, Side, Table, Words};
+use crate::side::{Ask, Header, Reply, Report, Side, Table, Tally, Words};
 
 /// The table behind the policy function, which is a plain function in the Rust. All sides alive have the same.
 static TABLE: [AtomicU32; 64] = [const { AtomicU32::new(0) }; 64];
@@ -238,25 +238,25 @@ impl Side for Rust {
         0
     }
     /// The Rust's tree statistics; the added column is worked out beside them.
-    fn figures(&mut self) -> Figures {
+    fn statistics(&mut self, rows: &mut [Tally; 8]) -> Report {
         if !self.stands() {
-            return Figures { number: 1, ..Figures::default() };
+            return Report { number: 1, ..Report::default() };
         }
         let stats = self.alloc.tree_stats();
-        let mut f = Figures { number: 0, free: stats.free_frames, trees: stats.free_trees, ..Figures::default() };
-        for (row, c) in f.rows.iter_mut().zip(&stats.classes) {
+        *rows = [Tally::default(); 8];
+        for (row, c) in rows.iter_mut().zip(&stats.classes) {
             (row.free, row.alloc) = (c.free_frames, c.alloc_frames);
         }
         let (trees, locals, _) = self.all_words();
         for &w in trees {
             let (free, _, of) = entry(w);
-            f.rows[of].used += 2048 - free;
+            rows[of].used += 2048 - free;
         }
         for &w in locals.iter().step_by(8).filter(|&w| w >> 63 == 1) {
             let tree = (w & 0xfff_ffff_ffff) as usize / 32;
-            f.rows[entry(trees[tree]).2].used -= (w << 1 >> 45) as usize;
+            rows[entry(trees[tree]).2].used -= (w << 1 >> 45) as usize;
         }
-        f
+        Report { number: 0, free: stats.free_frames, trees: stats.free_trees }
     }
     fn stands(&self) -> bool {
         let (t, l, b) = self.all_words();

@@ -68,7 +68,7 @@ pub enum Call {
     Get(Option<usize>, Ask),
     Put(usize, Ask),
     Drain,
-    Figures,
+    Statistics,
     /// The state test alone.
     Stands,
 }
@@ -97,13 +97,13 @@ pub struct Tally {
     pub used: usize,
 }
 
+/// What statistics answer beside the lent rows.
 #[repr(C)]
 #[derive(Clone, Copy, PartialEq, Debug, Default)]
-pub struct Figures {
+pub struct Report {
     pub number: usize,
     pub free: usize,
     pub trees: usize,
-    pub rows: [Tally; 8],
 }
 
 /// A side over words of its own.
@@ -119,7 +119,7 @@ pub trait Side {
     fn get(&mut self, frame: Option<usize>, q: Ask) -> Reply;
     fn put(&mut self, frame: usize, q: Ask) -> usize;
     fn drain(&mut self) -> usize;
-    fn figures(&mut self) -> Figures;
+    fn statistics(&mut self, rows: &mut [Tally; 8]) -> Report;
     fn stands(&self) -> bool;
 
     /// The call's answer; that of statistics is its sums alone.
@@ -131,9 +131,11 @@ pub trait Side {
             Call::Get(frame, q) => self.get(frame, q),
             Call::Put(frame, q) => Reply::of(self.put(frame, q)),
             Call::Drain => Reply::of(self.drain()),
-            Call::Figures => {
-                let f = std::hint::black_box(self.figures());
-                Reply { number: f.number, frame: f.free, class: f.trees, ..Reply::default() }
+            Call::Statistics => {
+                let mut rows = [Tally::default(); 8];
+                let r = self.statistics(&mut rows);
+                std::hint::black_box(&rows);
+                Reply { number: r.number, frame: r.free, class: r.trees, ..Reply::default() }
             }
             Call::Stands => Reply::of(1 - self.stands() as usize),
         }

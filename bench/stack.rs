@@ -91,7 +91,7 @@ impl Stack {
     fn all(&mut self, h: Header, table: Table, words: &Words) {
         let mut run = Run { port: Port::new(h, table), call: Call::Drain, reply: Reply::default() };
         let named = [None, Some(0), Some(h.frames / 2 / 2048 * 2048)];
-        let mut calls = vec![Call::Drain, Call::Figures, Call::Start(true), Call::Start(false)];
+        let mut calls = vec![Call::Drain, Call::Statistics, Call::Start(true), Call::Start(false)];
         for order in 0..12 {
             for class in 0..2 {
                 for local in [None, Some(0)] {
@@ -119,7 +119,7 @@ impl Stack {
             let q = Ask { order: random.below(12).min(random.below(12)), class, local };
             match random.below(100) {
                 0 => drop(self.call(&mut run, Call::Drain)),
-                1 => drop(self.call(&mut run, Call::Figures)),
+                1 => drop(self.call(&mut run, Call::Statistics)),
                 r if r < 60 || held.is_empty() => {
                     let frame = (random.below(3) == 0).then(|| random.below(h.frames) >> q.order << q.order);
                     let a = self.call(&mut run, Call::Get(frame, q));

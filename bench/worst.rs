@@ -51,7 +51,7 @@ fn locals(to: &mut Cases, n: usize) {
     let (_, none_free) = many_locals(n, 0);
     for (name, words, call, want) in [
         ("state test", &words, Call::Stands, 0),
-        ("statistics", &words, Call::Figures, 0),
+        ("statistics", &words, Call::Statistics, 0),
         ("drain", &words, Call::Drain, 0),
         ("get, order 0, unnamed, local", &words, own, 0),
         ("get, order 0, unnamed, no local", &words, any, 0),
