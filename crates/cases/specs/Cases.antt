@@ -24,18 +24,7 @@ use Rattle.ways.specs.Search.{near, roundDown, roundedStart, searchFar, searchF
 use Rattle.ways.specs.Get.{lastRoutes, getAt, startTree, orFrom, getReserving, searchTrees, getAny, routes}
 use Rattle.ways.specs.Standing.{lengthsExact, entryStands, holderStands, localStands, classStands, apart, apartBefore, reservedCount, presentCount, pastHeld, standing}
 use Rattle.ways.specs.Calls.{numberOf, outcomeOf, refuseLocal, refuseClass, refusal, unless, ifStanding, close, frameOf, get, putTo, onGiven, put, drainLocals, onDrained, drainClasses, closeDrain, drain, freeAtStart, freshTree, freshWord, freshState, start}
-use Rattle.ways.specs.Examples.{match255, demote, steal, tableT, asks, gives, startsHeld, drains, stands, number, tree, local, Example, answered, given, examples, further, heldWords, anyone, local0, all5, counted, untested, begun}
-
--- table T with a Match of 5 in place of 255 for class 0
-abbrev tableT5 : ℕ → Config
-tableT5 f =
-    record {
-      order = 11;
-      frames = f;
-      default = 1;
-      places = 2 ∷ 2 ∷ replicate 6 0;
-      pairs = 0x05000003 ∷ demote ∷ replicate 6 0 ++ steal ∷ match255 ∷ replicate 54 0;
-    }
+use Rattle.ways.specs.Examples.{match255, demote, steal, tableT, tableT5, asks, gives, startsHeld, drains, stands, number, tree, local, Example, answered, given, examples, further, heldWords, anyone, local0, all5, counted, untested, begun}
 
 -- words in which every eighth frame is held: 1,792 frames of a tree are free, and no aligned block of eight
 abbrev combed : ℕ → List ℕ
@@ -77,8 +66,8 @@ cases =
     -- an entry put that fills a reserved tree sets the default class
     ∷ record { of = tableT 4096 1 1; calls = local0 11 0 ∷ gives 11 0 Given.Nothing 0 ∷ []; figures = number ∷ tree 0 ∷ local 0 ∷ []; wants = 0 ∷ 0x30000800 ∷ 0x8000000000000000 ∷ [] }
     -- the near walk comes twice to a tree at n = 2 and n = 3
-    ∷ record { of = tableT5 4096; calls = stands (1792 ∷ 1792 ∷ []) (0 ∷ 0 ∷ []) (combed 64) ∷ local0 3 0 ∷ []; figures = all5; wants = 7 ∷ 0 ∷ 0 ∷ 5 ∷ 5 ∷ [] }
-    ∷ record { of = tableT5 6144; calls = stands (1792 ∷ 1792 ∷ 1792 ∷ []) (0 ∷ 0 ∷ []) (combed 96) ∷ local0 3 0 ∷ []; figures = all5; wants = 7 ∷ 0 ∷ 0 ∷ 6 ∷ 6 ∷ [] }
+    ∷ record { of = tableT5 4096 1; calls = stands (1792 ∷ 1792 ∷ []) (0 ∷ 0 ∷ []) (combed 64) ∷ local0 3 0 ∷ []; figures = all5; wants = 7 ∷ 0 ∷ 0 ∷ 5 ∷ 5 ∷ [] }
+    ∷ record { of = tableT5 6144 1; calls = stands (1792 ∷ 1792 ∷ 1792 ∷ []) (0 ∷ 0 ∷ []) (combed 96) ∷ local0 3 0 ∷ []; figures = all5; wants = 7 ∷ 0 ∷ 0 ∷ 6 ∷ 6 ∷ [] }
     -- the start tree is (n / locals) × the local: 8
     ∷ record { of = tableT 20480 5 1; calls = asks 0 0 (Given.Local 4) Any ∷ []; figures = all5; wants = 0 ∷ 14336 ∷ 0 ∷ 3 ∷ 1 ∷ [] }
     -- the list: Match before Demote before Steal; of two Demotes the fully free one
@@ -121,7 +110,7 @@ cases =
     -- the bound of looks, n + near − 1, is attained: nothing is free
     ∷ record { of = tableT 8192 1 1; calls = startsHeld ∷ local0 0 0 ∷ []; figures = all5; wants = 7 ∷ 0 ∷ 0 ∷ 7 ∷ 0 ∷ [] }
     -- a full list admits no equal: the ninth tree, the only one with a block, is not tried
-    ∷ record { of = tableT5 18432; calls = stands (replicate 4 1792 ++ 2047 ∷ replicate 4 1792) (0 ∷ 0 ∷ []) (combed 128 ++ 1 ∷ replicate 31 0 ++ combed 128) ∷ anyone 3 0 ∷ []; figures = all5; wants = 7 ∷ 0 ∷ 0 ∷ 9 ∷ 8 ∷ [] }
+    ∷ record { of = tableT5 18432 1; calls = stands (replicate 4 1792 ++ 2047 ∷ replicate 4 1792) (0 ∷ 0 ∷ []) (combed 128 ++ 1 ∷ replicate 31 0 ++ combed 128) ∷ anyone 3 0 ∷ []; figures = all5; wants = 7 ∷ 0 ∷ 0 ∷ 9 ∷ 8 ∷ [] }
     -- a full tree of another class than the default stands
     ∷ record { of = tableT 2048 1 1; calls = stands (0x800 ∷ []) (0 ∷ 0 ∷ []) (replicate 32 0) ∷ anyone 0 0 ∷ []; figures = all5 ++ tree 0 ∷ []; wants = 0 ∷ 0 ∷ 0 ∷ 1 ∷ 1 ∷ 0x7ff ∷ [] }
     ∷ []

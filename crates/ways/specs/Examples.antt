@@ -1,7 +1,7 @@
--- 01, Bench examples: the table of E1 to E12, and further cases that refuse wrong definitions which E1 to E12 let pass, with figures that the Rust
--- gave, or that 01's text gives where the Rust has no answer. The gets of both, and the start before them, are computed behind their tests, since the
--- state test is nearly all of a call's work; two Broken states and the statistics are computed with it. Crate `cases` has E1 to E12 and the further
--- cases with that test, and more. Assumes nothing.
+-- 01, Bench examples: the table of E1 to E12, and further cases, two of them of 80 trees, that refuse wrong definitions which E1 to E12 let pass, with
+-- figures that the Rust gave, or that 01's text gives where the Rust has no answer. Their gets, and the start before them, are computed behind their
+-- tests, since the state test is nearly all of a call's work; two Broken states and the statistics are computed with it. Crate `cases` has E1 to E12
+-- and the further cases but those of 80 trees with that test, and more. Assumes nothing.
 use mathlib.Core.Path.{_≡_, refl}
 use mathlib.Core.Bool.{true, false}
 use mathlib.Core.List.{List, [], _∷_, _++_}
@@ -56,6 +56,17 @@ tableT f n d =
       pairs = pairsT;
     }
 
+-- table T with a Match of 5 in place of 255 for class 0; f frames, n locals for each class, default 1
+abbrev pub tableT5 : ℕ → ℕ → Config
+tableT5 f n =
+    record {
+      order = 11;
+      frames = f;
+      default = 1;
+      places = suc n ∷ suc n ∷ replicate 6 0;
+      pairs = 0x05000003 ∷ demote ∷ replicate 6 0 ++ steal ∷ match255 ∷ replicate 54 0;
+    }
+
 -- a get (order, class, local, frame), a put, a start (all free, all held), a drain; or words stored by hand: tree t's entry, the local j, the words of the tree; or all words
 pub data Call : Type 0 where
   asks : ℕ → ℕ → Given → Name → Call
@@ -67,7 +78,7 @@ pub data Call : Type 0 where
 -- a figure that an example gives
 pub data Figure : Type 0 where
   number frame class looks tries : Figure
-  tree local : ℕ → Figure
+  tree local word : ℕ → Figure
 
 -- what is seen of it in an answer
 abbrev pub seen : Told → Figure → ℕ
@@ -78,6 +89,7 @@ seen r looks = r .looks
 seen r tries = r .tries
 seen r (tree t) = getD (r .trees) t 0
 seen r (local j) = getD (r .locals) j 0
+seen r (word w) = getD (r .bits) w 0
 
 -- n words of ws from i on are xs
 abbrev pub paste : List ℕ → ℕ → List ℕ → List ℕ
@@ -209,6 +221,14 @@ local0 o k = asks o k (Given.Local 0) Any
 abbrev pub all5 : List Figure
 all5 = number ∷ frame ∷ class ∷ looks ∷ tries ∷ []
 
+-- words in which the first frame is held: 2,016 frames of a tree are free, and no aligned block of 64
+abbrev pub dotted : ℕ → List ℕ
+dotted n = replicate n 1
+
+-- by hand: tree t of class 0, unreserved, with such words; local 0 absent
+abbrev pub dots : ℕ → Call
+dots t = holds t 2016 0 0 (dotted 32)
+
 -- cases that E1 to E12 leave open
 abbrev pub further : List Example
 further =
@@ -226,6 +246,21 @@ further =
     ∷ record { of = tableT 4096 1 1; calls = stands (0x800 ∷ 0x800 ∷ []) (0 ∷ 0 ∷ []) (replicate 64 0) ∷ local0 0 1 ∷ []; figures = all5 ++ tree 0 ∷ local 1 ∷ []; wants = 0 ∷ 0 ∷ 0 ∷ 5 ∷ 1 ∷ 0x7ff ∷ 0 ∷ [] }
     -- where a steal from a local and a demote could both pay, the steal does
     ∷ record { of = tableT 4096 1 1; calls = stands (0x10000000 ∷ 0x30000000 ∷ []) (0x8080000000000000 ∷ 0x8080000000000020 ∷ []) (replicate 64 0) ∷ anyone 0 0 ∷ []; figures = all5 ++ local 0 ∷ local 1 ∷ []; wants = 0 ∷ 0 ∷ 0 ∷ 2 ∷ 1 ∷ 0x807ff00000000000 ∷ 0x8080000000000020 ∷ [] }
+    -- a stealing search that steals answers the class that the entry has
+    ∷ record { of = tableT 2048 1 1; calls = stands (0x800 ∷ []) (0 ∷ 0 ∷ []) (replicate 32 0) ∷ anyone 0 1 ∷ []; figures = all5 ++ tree 0 ∷ []; wants = 0 ∷ 0 ∷ 0 ∷ 1 ∷ 1 ∷ 0x7ff ∷ [] }
+    -- the far list has eight: of nine trees that the lower refuses the last found, 4, is not tried; Memory leaves the bitmap as it was
+    ∷ record { of = tableT 18432 1 1; calls = stands (replicate 9 0x200007e0) (0 ∷ 0 ∷ []) (dotted 288) ∷ local0 6 0 ∷ []; figures = all5 ++ tree 5 ∷ tree 4 ∷ word 0 ∷ word 287 ∷ []; wants = 7 ∷ 0 ∷ 0 ∷ 12 ∷ 8 ∷ 0x7e0 ∷ 0x200007e0 ∷ 1 ∷ 1 ∷ [] }
+    -- so has the list of the stealing search
+    ∷ record { of = tableT 18432 1 1; calls = stands (replicate 9 0x200007e0) (0 ∷ 0 ∷ []) (dotted 288) ∷ anyone 6 0 ∷ []; figures = all5 ++ tree 5 ∷ tree 4 ∷ []; wants = 7 ∷ 0 ∷ 0 ∷ 9 ∷ 8 ∷ 0x7e0 ∷ 0x200007e0 ∷ [] }
+    ∷ []
+
+-- cases of 80 trees: near is 5, and the start is rounded down to a multiple of 16; their state test, which is long, is computed in no crate
+abbrev pub wide : List Example
+wide =
+    -- the start 24 is rounded to 16, and the near walk looks at 15, 17, 14 and 18
+    record { of = tableT 163840 10 1; calls = asks 0 0 (Given.Local 3) Any ∷ []; figures = all5; wants = 0 ∷ 30720 ∷ 0 ∷ 4 ∷ 1 ∷ [] }
+    -- the near list has three places: 15, 17 and 14 are refused, 18, the fourth, is not tried, and the far walk begins at 16
+    ∷ record { of = tableT5 163840 5; calls = dots 14 ∷ dots 15 ∷ dots 17 ∷ asks 6 0 (Given.Local 1) Any ∷ []; figures = all5 ++ tree 18 ∷ []; wants = 0 ∷ 32768 ∷ 0 ∷ 5 ∷ 4 ∷ 0x20000800 ∷ [] }
     ∷ []
 
 -- states that are refused
@@ -258,9 +293,9 @@ counted entry0 n =
     figuresIn (statistics (record { order = 11; frames = 6144; default = 1; places = 3 ∷ 2 ∷ replicate 6 0; pairs = pairsT })
     (entry0 ∷ 0x30000000 ∷ 0x20000800 ∷ []) (0x807FF00000000000 ∷ 0x8080000000000020 ∷ 0 ∷ []) (replicate 96 0) (lentRows n))
 
--- E1 to E12 and the further cases come out as given behind the tests; the broken states are refused; the statistics are as given
+-- E1 to E12, the further cases and those of 80 trees come out as given behind the tests; the broken states are refused; the statistics are as given
 pub claims :
     (behind examples ≡ given examples)
-    × ((behind further ≡ given further) × ((answered broken ≡ given broken) × (counted 0x10000001 8 ≡ 0 ∷ 6144 ∷ 2 ∷ 4096 ∷ 2047 ∷ 0 ∷ 2048 ∷ 2048 ∷ 0 ∷ [])))
+    × ((behind further ≡ given further) × ((behind wide ≡ given wide) × ((answered broken ≡ given broken) × (counted 0x10000001 8 ≡ 0 ∷ 6144 ∷ 2 ∷ 4096 ∷ 2047 ∷ 0 ∷ 2048 ∷ 2048 ∷ 0 ∷ []))))
 unfolding ifte allBelow sum listed firstIn treeCount configured localsOf slot localCount treeOf treeWord localOf localWord pairOf kindOf cutOf lowOf highOf policyOf policy kindAt good pairFormed pairAccepted tableFormed rulesAt tableRules framesAccepted placesAccepted defaultAccepted accepted ifFull classAfter putOf stealKind stealOf reserveKind reserveOf unreserveKind unreserveOf syncOf entryPut keepTook entrySteal entryUnreserve keepTaken entryReserve keepSync entrySync inTree localTake localPut localRow localSwap localClear hasEnough cyclic firstLocal payerOr mayPay mayMove payerIn stealAny demoteAny held heldIn clearBits clear mark searchIn hasTree lowerFind lowerTake lowerGet lowerPut indexOf done missed missedAt stuck orElse withTrees withLocals withBits withTry withLook onTook onTaken onSync onHeld onPut onSwap onFound putEntry setRow askLower unreserve unreserveLocal takeBy topBy topUp getLocal ownLocal payFrom stealLocal demoteTo moveFrom demoteLocal place ratedIn rate insert admit stealGlobal reserved reserveOrSteal access tried offered visit onSight walkSteps walk tryList stopped searchBest near roundDown roundedStart searchFar searchFrom searchAndReserve searchAndSteal lastRoutes getAt startTree orFrom getReserving searchTrees getAny routes lengthsExact entryStands holderStands localStands classStands apart apartBefore reservedCount presentCount pastHeld standing numberOf outcomeOf refuseLocal refuseClass refusal unless ifStanding close frameOf get putTo onGiven put drainLocals onDrained drainClasses closeDrain drain freeAtStart freshTree freshWord freshState start overClass entryFree localFree entryAlloc reservedFree inUse tally Statistics.tallies totalFree freeTrees statistics
-claims = (refl, (refl, (refl, refl)))
+claims = (refl, (refl, (refl, (refl, refl))))
