@@ -20,7 +20,7 @@ fn figures<'a>(
     locals: &'a [u64],
     bits: &'a [u64],
 ) {
-    let report = tells::tell(h, table, trees, locals, bits, 8);
+    let report = lent_rows::report(h, table, trees, locals, bits, 8);
     says::figures(h.frames, report);
 }
 

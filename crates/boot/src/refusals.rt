@@ -95,7 +95,7 @@ fn seven_rows<'a>(
     locals: &'a [u64],
     bits: &'a [u64],
 ) -> usize {
-    let report = tells::tell(h, table, trees, locals, bits, 7);
+    let report = lent_rows::report(h, table, trees, locals, bits, 7);
     let totals = report.totals;
     let outcome = totals.outcome;
     numbers::number(outcome)

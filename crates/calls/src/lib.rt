@@ -32,7 +32,7 @@ fn made(
         Call::Get { name, q } => Answered::Get(get::get(h, table, trees, locals, bits, name, q)),
         Call::Put { frame, q } => Answered::Put(put::put(h, table, trees, locals, bits, frame, q)),
         Call::Drain => Answered::Drain(drain::drain(h, table, trees, locals, bits)),
-        Call::Stats => Answered::Stats(tells::tell(h, table, trees, locals, bits, rows)),
+        Call::Stats => Answered::Stats(lent_rows::report(h, table, trees, locals, bits, rows)),
     }
 }
 

@@ -136,7 +136,7 @@ fn totals<'a>(
     locals: &'a [u64],
     bits: &'a [u64],
 ) {
-    let told = tells::tell(h, table, trees, locals, bits, 8);
+    let told = lent_rows::report(h, table, trees, locals, bits, 8);
     let t = told.totals;
     total_line(t, h.frames, trees.len());
 }

@@ -1,0 +1,2 @@
+-- rows of zeros, what is lent of them, and a report by value
+pub mod Lent
