@@ -15,7 +15,7 @@ use Rattle.rules.specs.declared.Request.{Request}
 use Rattle.policy_laws.specs.Accepted.{accepted-says, locals-most}
 use Rattle.ways.specs.State.{indexOf}
 use Rattle.ways.specs.Calls.{refusal}
-use Rattle.ways.specs.Fits.{Fits}
+use Rattle.get_fits.specs.Fits.{Fits}
 use Rattle.step_laws.specs.Checked.{LocalIn, refusal-checked}
 
 -- ---- the sum of frame f and n frames against F, without the sum

@@ -12,7 +12,7 @@ ghost use Prim.Native.Nat.{_+_, _^_, _<_, _≤_};
 ghost use Rattle.rules.specs.Words.{config};
 ghost use Rattle.ways.specs.State.{st, ended};
 ghost use Rattle.ways.specs.Locals.{demoteTo, demoteLocal};
-ghost use Rattle.ways.specs.Fits.{Fits};
+ghost use Rattle.get_fits.specs.Fits.{Fits};
 
 // The reservation l moves to the given local and the displaced one is unreserved, or with no local it is unreserved itself; then the lower is asked.
 fn demote_to(

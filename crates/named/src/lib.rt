@@ -8,7 +8,7 @@ ghost use Prim.Native.Nat.{_+_, _^_, _<_, _≤_};
 ghost use Rattle.rules.specs.Words.{config};
 ghost use Rattle.ways.specs.State.{st, ended};
 ghost use Rattle.ways.specs.Get.{getAt};
-ghost use Rattle.ways.specs.Fits.{Fits};
+ghost use Rattle.get_fits.specs.Fits.{Fits};
 
 // Named frame: own local if given; steal globally from its tree; steal from locals; demote.
 pub fn get_at(

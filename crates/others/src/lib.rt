@@ -11,7 +11,7 @@ ghost use Rattle.rules.specs.Words.{config};
 ghost use Rattle.ways.specs.State.{st, ended};
 ghost use Rattle.ways.specs.Locals.{stealLocal};
 ghost use Rattle.ways.specs.Get.{lastRoutes};
-ghost use Rattle.ways.specs.Fits.{Fits};
+ghost use Rattle.get_fits.specs.Fits.{Fits};
 
 // Steal from locals: over classes c, c+1, .. modulo 8 whose kind is Steal or Match. The first with enough pays, and its class is answered.
 fn steal_local(

@@ -8,7 +8,7 @@ ghost use mathlib.Core.Path.{_≡_};
 ghost use Prim.Native.Nat.{_+_, _^_, _<_, _≤_};
 ghost use Rattle.rules.specs.Words.{config};
 ghost use Rattle.ways.specs.State.{st, ended};
-ghost use Rattle.ways.specs.Fits.{Fits};
+ghost use Rattle.get_fits.specs.Fits.{Fits};
 ghost use Rattle.own.specs.Own.{atRow};
 
 // A local has paid at its row: the lower is asked there, and the found frame's row stored; if it refuses, the frames go to the tree's entry.

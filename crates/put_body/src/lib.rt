@@ -7,7 +7,7 @@ ghost use mathlib.Core.Path.{_≡_};
 ghost use Rattle.rules.specs.Words.{config};
 ghost use Rattle.rules.specs.Lower.{lowerPut};
 ghost use Rattle.ways.specs.Calls.{fresh, told, putTo, onGiven};
-ghost use Rattle.ways.specs.Fits.{Fits};
+ghost use Rattle.get_fits.specs.Fits.{Fits};
 
 // A put whose arguments fit: the lower first, then the local or the entry.
 pub fn put_body(

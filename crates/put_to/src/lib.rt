@@ -8,7 +8,7 @@ ghost use Prim.Native.Nat.{ℕ, _^_, _<_};
 ghost use Rattle.rules.specs.Words.{config};
 ghost use Rattle.ways.specs.State.{indexOf};
 ghost use Rattle.ways.specs.Calls.{fresh, putTo};
-ghost use Rattle.ways.specs.Fits.{Fits};
+ghost use Rattle.get_fits.specs.Fits.{Fits};
 
 // The frames of a put go to the given local if it holds their tree, else to the tree's entry.
 pub fn put_to(

@@ -13,7 +13,7 @@ ghost use Rattle.rules.specs.Words.{config};
 ghost use Rattle.rules.specs.Locals.{reservation};
 ghost use Rattle.ways.specs.State.{st, ended, stuck};
 ghost use Rattle.ways.specs.Walk.{reserved};
-ghost use Rattle.ways.specs.Fits.{Fits};
+ghost use Rattle.get_fits.specs.Fits.{Fits};
 
 // A reservation of tree t, at its first row.
 fn reservation(t: usize, free: usize) -> Local

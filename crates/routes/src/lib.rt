@@ -11,7 +11,7 @@ ghost use Rattle.rules.specs.Words.{config};
 ghost use Rattle.rules.specs.declared.Given.the-variants as Given;
 ghost use Rattle.ways.specs.State.{st, ended, indexOf};
 ghost use Rattle.ways.specs.Get.{startTree, searchTrees, routes};
-ghost use Rattle.ways.specs.Fits.{Fits};
+ghost use Rattle.get_fits.specs.Fits.{Fits};
 ghost use Rattle.routes.specs.Start.{startAfter};
 ghost use Rattle.routes.specs.Turn.{reserving};
 

@@ -10,7 +10,7 @@ ghost use Rattle.rules.specs.Words.{config, treeCount};
 ghost use Rattle.ways.specs.State.{st, ended};
 ghost use Rattle.ways.specs.Walk.{searchBest};
 ghost use Rattle.ways.specs.Search.{searchAndReserve, searchAndSteal};
-ghost use Rattle.ways.specs.Fits.{Fits};
+ghost use Rattle.get_fits.specs.Fits.{Fits};
 ghost use Rattle.search.specs.Near.{nearFirst};
 
 // A walk over all trees, the far or the stealing one: 0 to n, with a list of 8.

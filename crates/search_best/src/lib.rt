@@ -9,7 +9,7 @@ ghost use Prim.Native.Nat.{_+_, _^_, _<_, _≤_};
 ghost use Rattle.rules.specs.Words.{config};
 ghost use Rattle.ways.specs.State.{st, ended};
 ghost use Rattle.ways.specs.Walk.{searchBest};
-ghost use Rattle.ways.specs.Fits.{Fits};
+ghost use Rattle.get_fits.specs.Fits.{Fits};
 
 // A walk, then its list.
 pub fn search_best(

@@ -14,7 +14,7 @@ ghost use Rattle.rules.specs.declared.Name.the-variants.{Any};
 ghost use Rattle.rules.specs.declared.Request.{Request};
 ghost use Rattle.ways.specs.State.{State, st, ended};
 ghost use Rattle.ways.specs.Walk.{stealGlobal, reserveOrSteal, access};
-ghost use Rattle.ways.specs.Fits.{Fits};
+ghost use Rattle.get_fits.specs.Fits.{Fits};
 
 // Steal globally, from the entry of tree t.
 pub fn steal_global(

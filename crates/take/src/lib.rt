@@ -10,7 +10,7 @@ ghost use Prim.Native.Nat.{_+_, _^_, _<_, _≤_};
 ghost use Rattle.rules.specs.Words.{config};
 ghost use Rattle.ways.specs.State.{st, ended, indexOf};
 ghost use Rattle.ways.specs.Locals.{topUp, getLocal, ownLocal};
-ghost use Rattle.ways.specs.Fits.{Fits};
+ghost use Rattle.get_fits.specs.Fits.{Fits};
 
 // Subtract, and ask the lower at the local's row; where it holds too few, or another tree than the named one, top it up.
 pub fn get_local(

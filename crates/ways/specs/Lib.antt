@@ -7,6 +7,5 @@ pub mod Get
 pub mod Standing
 pub mod Calls
 pub mod Statistics
-pub mod Fits
 pub mod Promises
 pub mod Examples

@@ -1,6 +1,6 @@
 -- `demotes::demote_to` meets its contract. Assumes nothing.
 use mathlib.Core.Path.{_∙_}
-use Rattle.ways.specs.Fits.{given-small}
+use Rattle.get_fits.specs.Fits.{given-small}
 use borrow.Author.Tests.{not-true, not-false}
 use native.Mathlib.Omega.{arith}
 use borrow.Author.Needs.{needs}

@@ -1,6 +1,6 @@
 -- `take::own_local` meets its contract. Assumes nothing.
 use native.Mathlib.Omega.{arith}
-use Rattle.ways.specs.Fits.{given-small}
+use Rattle.get_fits.specs.Fits.{given-small}
 use Rattle.ways.specs.Locals.{ownLocal}
 use borrow.Author.Needs.{needs}
 use Rattle.take.proofs.own_local.Statement.{statement}

@@ -1,0 +1,2 @@
+-- what the functions behind the exported calls ask of their callers
+pub mod Fits
