@@ -3,6 +3,7 @@ use rules::Header;
 ghost use mathlib.Core.Path.{_≡_};
 ghost use Prim.Native.Nat.{_<_};
 ghost use Rattle.rules.specs.Words.{config};
+ghost use Rattle.rules.specs.declared.Header.{Header};
 ghost use Rattle.rules.specs.Policy.{pairFormed};
 ghost use Rattle.policy_laws.specs.Rows.{pairCovered, covers, leadsBack, demoteCovers};
 
@@ -17,24 +18,24 @@ pub fn formed(w: u32) -> bool
 }
 
 // If (e, f) is good then (o, f) is good.
-fn pair_covered(h: Header, table: &[u32; 64], o: usize, e: usize, f: usize) -> bool
+fn pair_covered(table: &[u32; 64], o: usize, e: usize, f: usize) -> bool
     requires { ⌜ (o < 8) × ((e < 8) × (f < 8)) ⌝ }
-    ensures { λ r. ⌜ r ≡ pairCovered (config h (now (table .entry))) o e f ⌝ }
+    ensures { λ r. ⌜ ((h : Header) → r ≡ pairCovered (config h (now (table .entry))) o e f) ⌝ }
 {
-    if 2 <= policy::kind_at(h, table, e, f) {
-        return 2 <= policy::kind_at(h, table, o, f);
+    if 2 <= policy::kind_at(table, e, f) {
+        return 2 <= policy::kind_at(table, o, f);
     }
     true
 }
 
 // Every class that e is good with, o is good with.
-fn covers(h: Header, table: &[u32; 64], o: usize, e: usize) -> bool
+fn covers(table: &[u32; 64], o: usize, e: usize) -> bool
     requires { ⌜ (o < 8) × (e < 8) ⌝ }
-    ensures { λ r. ⌜ r ≡ covers (config h (now (table .entry))) o e ⌝ }
+    ensures { λ r. ⌜ ((h : Header) → r ≡ covers (config h (now (table .entry))) o e) ⌝ }
 {
     let mut f: usize = 0;
     while f < 8 {
-        if !pair_covered(h, table, o, e, f) {
+        if !pair_covered(table, o, e, f) {
             return false;
         }
         f += 1;
@@ -47,9 +48,9 @@ pub fn leads_back(h: Header, table: &[u32; 64], o: usize, e: usize) -> bool
     requires { ⌜ (h .default < 8) × ((o < 8) × (e < 8)) ⌝ }
     ensures { λ r. ⌜ r ≡ leadsBack (config h (now (table .entry))) o e ⌝ }
 {
-    if 2 <= policy::kind_at(h, table, o, e) {
-        if 0 < policy::kind_at(h, table, e, h.default) {
-            return 2 <= policy::kind_at(h, table, o, h.default);
+    if 2 <= policy::kind_at(table, o, e) {
+        if 0 < policy::kind_at(table, e, h.default) {
+            return 2 <= policy::kind_at(table, o, h.default);
         }
         return true;
     }
@@ -57,12 +58,12 @@ pub fn leads_back(h: Header, table: &[u32; 64], o: usize, e: usize) -> bool
 }
 
 // The third rule at (o, e): if it is Demote then o covers e.
-pub fn demote_covers(h: Header, table: &[u32; 64], o: usize, e: usize) -> bool
+pub fn demote_covers(table: &[u32; 64], o: usize, e: usize) -> bool
     requires { ⌜ (o < 8) × (e < 8) ⌝ }
-    ensures { λ r. ⌜ r ≡ demoteCovers (config h (now (table .entry))) o e ⌝ }
+    ensures { λ r. ⌜ ((h : Header) → r ≡ demoteCovers (config h (now (table .entry))) o e) ⌝ }
 {
-    if policy::kind_at(h, table, o, e) == 2 {
-        return covers(h, table, o, e);
+    if policy::kind_at(table, o, e) == 2 {
+        return covers(table, o, e);
     }
     true
 }

@@ -4,6 +4,7 @@ ghost use mathlib.Core.Path.{_≡_};
 ghost use Prim.Native.Nat.{_<_};
 ghost use Rattle.rules.specs.Base.{allBelow};
 ghost use Rattle.rules.specs.Words.{config};
+ghost use Rattle.rules.specs.declared.Header.{Header};
 ghost use Rattle.policy_laws.specs.Rows.{cellAccepted, rowEmpty, rowAccepted};
 
 // The pair of a configured class o and a class e: its form, and the second and the third rule; zero if e is unconfigured.
@@ -12,15 +13,15 @@ fn cell_accepted(h: Header, places: &[u8; 8], table: &[u32; 64], o: usize, e: us
     ensures { λ r. ⌜ r ≡ cellAccepted (config h (now (table .entry))) o e ⌝ }
 {
     if headers::configured_in(places, e) {
-        if accept_pairs::formed(policy::pair_at(h, table, o, e)) {
+        if accept_pairs::formed(policy::pair_at(table, o, e)) {
             if accept_pairs::leads_back(h, table, o, e) {
-                return accept_pairs::demote_covers(h, table, o, e);
+                return accept_pairs::demote_covers(table, o, e);
             }
             return false;
         }
         return false;
     }
-    policy::pair_at(h, table, o, e) == 0
+    policy::pair_at(table, o, e) == 0
 }
 
 // The eight pairs of a configured class o.
@@ -39,14 +40,14 @@ fn cells_accepted(h: Header, places: &[u8; 8], table: &[u32; 64], o: usize) -> b
 }
 
 // The eight pairs of an unconfigured class o are zero: so is what has a bit of any of them.
-fn row_empty(h: Header, table: &[u32; 64], o: usize) -> bool
+fn row_empty(table: &[u32; 64], o: usize) -> bool
     requires { ⌜ o < 8 ⌝ }
-    ensures { λ r. ⌜ r ≡ rowEmpty (config h (now (table .entry))) o ⌝ }
+    ensures { λ r. ⌜ ((h : Header) → r ≡ rowEmpty (config h (now (table .entry))) o) ⌝ }
 {
     let mut any: u32 = 0;
     let mut e: usize = 0;
     while e < 8 {
-        any = any | policy::pair_at(h, table, o, e);
+        any = any | policy::pair_at(table, o, e);
         e += 1;
     }
     any == 0
@@ -58,12 +59,12 @@ fn row_accepted(h: Header, places: &[u8; 8], table: &[u32; 64], o: usize) -> boo
     ensures { λ r. ⌜ r ≡ rowAccepted (config h (now (table .entry))) o ⌝ }
 {
     if headers::configured_in(places, o) {
-        if 2 <= policy::kind_at(h, table, o, o) {
+        if 2 <= policy::kind_at(table, o, o) {
             return cells_accepted(h, places, table, o);
         }
         return false;
     }
-    row_empty(h, table, o)
+    row_empty(table, o)
 }
 
 // The table: its form and the three rules.

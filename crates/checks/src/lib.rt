@@ -6,14 +6,15 @@ use rules::Request;
 use ways::Outcome;
 use ways::Refusal;
 ghost use mathlib.Core.Path.{_≡_};
-ghost use Prim.Native.Nat.{_<_};
+ghost use mathlib.Core.List.{List};
+ghost use Prim.Native.Nat.{ℕ, _<_};
 ghost use Rattle.rules.specs.Words.{config};
 ghost use Rattle.ways.specs.Calls.{outcomeOf, refuseLocal, refuseClass, refusal, frameOf};
 
 // A local given has to be below its class's number.
-fn check_local(h: Header, table: &[u32; 64], class: usize, local: Given) -> Outcome
+fn check_local(h: Header, class: usize, local: Given) -> Outcome
     requires { ⌜ class < 8 ⌝ }
-    ensures { λ r. ⌜ outcomeOf r ≡ refuseLocal (config h (now (table .entry))) class local ⌝ }
+    ensures { λ r. ⌜ ((pairs : List ℕ) → outcomeOf r ≡ refuseLocal (config h pairs) class local) ⌝ }
 {
     match local {
         Given::Nothing => Outcome::Done,
@@ -27,22 +28,22 @@ fn check_local(h: Header, table: &[u32; 64], class: usize, local: Given) -> Outc
 }
 
 // The class has to be one of 0 to 7, and configured.
-fn check_class(h: Header, table: &[u32; 64], q: Request) -> Outcome
-    ensures { λ r. ⌜ outcomeOf r ≡ refuseClass (config h (now (table .entry))) q ⌝ }
+fn check_class(h: Header, q: Request) -> Outcome
+    ensures { λ r. ⌜ ((pairs : List ℕ) → outcomeOf r ≡ refuseClass (config h pairs) q) ⌝ }
 {
     if 7 < q.class {
         return Outcome::Refused(Refusal::Class);
     }
     if headers::is_configured(h, q.class) {
         let local = q.local;
-        return check_local(h, table, q.class, local);
+        return check_local(h, q.class, local);
     }
     Outcome::Refused(Refusal::Class)
 }
 
 // The refusals 2 to 6, tried in that order. The sum of frame and 2^order is not formed, so that nothing wraps.
-pub fn check(h: Header, table: &[u32; 64], q: Request, frame: usize) -> Outcome
-    ensures { λ r. ⌜ outcomeOf r ≡ refusal (config h (now (table .entry))) q frame ⌝ }
+pub fn check(h: Header, q: Request, frame: usize) -> Outcome
+    ensures { λ r. ⌜ ((pairs : List ℕ) → outcomeOf r ≡ refusal (config h pairs) q frame) ⌝ }
 {
     if 11 < q.order {
         return Outcome::Refused(Refusal::Order);
@@ -55,7 +56,7 @@ pub fn check(h: Header, table: &[u32; 64], q: Request, frame: usize) -> Outcome
         return Outcome::Refused(Refusal::Bounds);
     }
     if frame % n == 0 {
-        return check_class(h, table, q);
+        return check_class(h, q);
     }
     Outcome::Refused(Refusal::Misaligned)
 }

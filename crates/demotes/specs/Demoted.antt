@@ -4,19 +4,19 @@ use mathlib.Core.Bool.{Bool, true, false}
 use mathlib.Core.List.{List}
 use Prim.Native.Nat.{ℕ, _/_}
 use Rattle.rules.specs.Base.{out}
-use Rattle.rules.specs.Words.{Config, treeRows, slot}
-use Rattle.rules.specs.Locals.{localTake, localSwap, localClear, demoteAny}
+use Rattle.rules.specs.Words.{Config, treeRows, slot, localAt}
+use Rattle.rules.specs.Locals.{localTake, localSwap, localClear, hasEnough, demoteAny}
 use Rattle.rules.specs.declared.Local.{Local}
 use Rattle.rules.specs.declared.Name.{Name}
 use Rattle.rules.specs.declared.Given.{Given}
 use Rattle.rules.specs.declared.Given.the-variants as Given
-use Rattle.rules.specs.declared.Held.{Held}
 use Rattle.rules.specs.declared.Held.the-variants as Held
 use Rattle.rules.specs.declared.Payer.{Payer}
 use Rattle.rules.specs.declared.Payer.the-variants as Payer
 use Rattle.rules.specs.declared.Request.{Request}
 use Rattle.ways.specs.State.{State, Way, st, size, indexOf, missed, stuck, onHeld, onSwap, withLocals, withTrees, askLower}
 use Rattle.ways.specs.Locals.{demoteTo, moveFrom, demoteLocal}
+use Rattle.step_laws.specs.Payers.{demote-enough}
 use Rattle.unreserves.specs.Returned.{returned, returnedLocal, onReturned, unreserve-returned, local-returned}
 
 module _ (c : Config) (q : Request) (name : Name) (s : State) {w : Way} where
@@ -43,22 +43,14 @@ module _ (c : Config) (q : Request) (name : Name) (s : State) {w : Way} where
       unfolding demoteTo onReturned withTrees
       itself e h = rw (none, unreserve-returned _ _ _ _ _ _ _, ← back, e) h
 
-  -- nobody moves; the first with enough, at place j, is reduced and leaves its local (too few, or absent, is not reached: the definition has it)
+  -- nobody moves; the first with enough, at place j, is reduced and leaves its local
   module _ {i n : ℕ} {p : Payer} (from : i ≡ indexOf (q .local)) (much : n ≡ size q) (first : p ≡ demoteAny c (s .locals) (q .class) i name n) where
     pub nobody : p ≡ Payer.Nobody → w ≡ missed s → w ≡ demoteLocal c q name s
     unfolding demoteLocal moveFrom
     nobody e h = rw (← from, ← much, ← first, e) h
 
-    module _ {k j : ℕ} {x : Held} {ls : List ℕ} (some : p ≡ Payer.Local k j) (took : out x ls ≡ localTake (c .order) (s .locals) j name n) where
-      pub leaves : {row : ℕ} {l : Local} {ls′ : List ℕ} → x ≡ Held.Row row → out l ls′ ≡ localClear ls j
-          → w ≡ demoteTo c q name l (q .local) (st (s .trees) ls′ (s .bits) (s .looks) (s .tries)) → w ≡ demoteLocal c q name s
-      unfolding demoteLocal moveFrom onHeld onSwap withLocals
-      leaves e left h = rw (← from, ← much, ← first, some, ← much, ← took, e, ← left) h
-
-      pub few : {row free : ℕ} → x ≡ Held.Few row free → w ≡ missed (st (s .trees) ls (s .bits) (s .looks) (s .tries)) → w ≡ demoteLocal c q name s
-      unfolding demoteLocal moveFrom onHeld withLocals
-      few e h = rw (← from, ← much, ← first, some, ← much, ← took, e) h
-
-      pub absent : x ≡ Held.Absent → w ≡ missed (st (s .trees) ls (s .bits) (s .looks) (s .tries)) → w ≡ demoteLocal c q name s
-      unfolding demoteLocal moveFrom onHeld withLocals
-      absent e h = rw (← from, ← much, ← first, some, ← much, ← took, e) h
+    pub leaves : {k j row : ℕ} {l : Local} {ls ls′ : List ℕ} → p ≡ Payer.Local k j
+        → (hasEnough (c .order) (localAt (s .locals) j) name n ≡ true → out (Held.Row row) ls ≡ localTake (c .order) (s .locals) j name n)
+        → out l ls′ ≡ localClear ls j → w ≡ demoteTo c q name l (q .local) (st (s .trees) ls′ (s .bits) (s .looks) (s .tries)) → w ≡ demoteLocal c q name s
+    unfolding demoteLocal moveFrom onHeld onSwap withLocals
+    leaves some paid left h = rw (← from, ← much, ← first, some, ← much, ← paid (demote-enough _ _ _ _ _ _ first some), ← left) h

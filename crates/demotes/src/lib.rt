@@ -1,7 +1,6 @@
 // llfree.rs, demote_local: a reservation of another class moves to the given local, or is returned.
 use rules::Given;
 use rules::Header;
-use rules::Held;
 use rules::Local;
 use rules::Name;
 use rules::Payer;
@@ -13,6 +12,7 @@ ghost use Rattle.rules.specs.Words.{config};
 ghost use Rattle.ways.specs.State.{st, ended};
 ghost use Rattle.ways.specs.Locals.{demoteTo, demoteLocal};
 ghost use Rattle.get_fits.specs.Fits.{Fits};
+ghost use Rattle.get_fits.specs.Room.{Room};
 
 // The reservation l moves to the given local and the displaced one is unreserved, or with no local it is unreserved itself; then the lower is asked.
 fn demote_to(
@@ -27,7 +27,7 @@ fn demote_to(
     looks: usize,
     tries: usize,
 ) -> Routed
-    requires { ⌜ Fits h q × ((l .free < 2 ^ 32) × ((looks < 2 ^ 32) × (tries < 2 ^ 32))) ⌝ }
+    requires { ⌜ Fits h q × ((l .free < 2 ^ 32) × Room 1 tries) ⌝ }
     ensures { λ r. ⌜ (ended r (now (trees .exit)) (now (locals .exit)) (now (bits .exit))
         ≡ demoteTo (config h (now (table .entry))) q name l (q .local) (st (now (trees .entry)) (now (locals .entry)) (now (bits .entry)) looks tries))
         × ((r .looks ≤ looks) × (r .tries ≤ tries + 1)) ⌝ }
@@ -62,7 +62,7 @@ pub fn demote_local(
     looks: usize,
     tries: usize,
 ) -> Routed
-    requires { ⌜ Fits h q × ((looks < 2 ^ 32) × (tries < 2 ^ 32)) ⌝ }
+    requires { ⌜ Fits h q × Room 1 tries ⌝ }
     ensures { λ r. ⌜ (ended r (now (trees .exit)) (now (locals .exit)) (now (bits .exit))
         ≡ demoteLocal (config h (now (table .entry))) q name (st (now (trees .entry)) (now (locals .entry)) (now (bits .entry)) looks tries))
         × ((r .looks ≤ looks) × (r .tries ≤ tries + 1)) ⌝ }
@@ -74,12 +74,7 @@ pub fn demote_local(
     let Payer::Local { class: _, slot } = payer else {
         return ends::missed(looks, tries);
     };
-    match local_frames::take(locals, slot, name, n) {
-        Held::Row(_) => {
-            let l = local_swaps::clear(locals, slot);
-            demote_to(h, table, trees, locals, bits, q, name, l, looks, tries)
-        }
-        Held::Few { row: _, free: _ } => ends::missed(looks, tries),
-        Held::Absent => ends::missed(looks, tries),
-    }
+    local_frames::pay(locals, slot, n);
+    let l = local_swaps::clear(locals, slot);
+    demote_to(h, table, trees, locals, bits, q, name, l, looks, tries)
 }

@@ -33,7 +33,7 @@ pub fn put(h: Header, table: &[u32; 64], t: Tree, n: usize) -> Tree
     ensures { λ r. ⌜ r ≡ putOf (config h (now (table .entry))) t n ⌝ }
 {
     let free = t.free + n;
-    let kind = policy::ask(h, table, t.class, h.default, free);
+    let kind = policy::ask(table, t.class, h.default, free);
     Tree {
         free: free,
         reserved: t.reserved,
@@ -47,7 +47,7 @@ pub fn unreserve(h: Header, table: &[u32; 64], t: Tree, class: usize, n: usize) 
     ensures { λ r. ⌜ r ≡ unreserveOf (config h (now (table .entry))) t class n ⌝ }
 {
     if t.reserved {
-        match policy::ask(h, table, class, t.class, n) {
+        match policy::ask(table, class, t.class, n) {
             Kind::Invalid => Took::No,
             Kind::Steal => Took::No,
             Kind::Demote => Took::Yes(put(

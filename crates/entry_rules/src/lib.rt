@@ -1,24 +1,19 @@
 // The standing rules of the entries: one pass over them and the bitmap.
 use rules::Header;
 ghost use mathlib.Core.Path.{_≡_};
-ghost use Prim.Native.Nat.{_+_, _*_, _≤_};
+ghost use mathlib.Core.List.{List};
+ghost use Prim.Native.Nat.{ℕ, _+_, _*_, _≤_};
 ghost use lib.ListN.{length};
 ghost use Rattle.rules.specs.Base.{allBelow};
 ghost use Rattle.rules.specs.Words.{config};
+ghost use Rattle.rules.specs.declared.Header.{Header};
 ghost use Rattle.ways.specs.Standing.{entryStands};
-ghost use Rattle.lengths.specs.Exact.{Exact};
 
 // Entry free at most 2,048, class configured; with no reservation entry free is the number of clear bits.
-fn entry_stands(
-    h: Header,
-    places: &[u8; 8],
-    table: &[u32; 64],
-    trees: &[u32],
-    bits: &[u64],
-    t: usize,
-) -> bool
-    requires { ⌜ (now places ≡ h .places) × (t * 32 + 32 ≤ length (now bits)) ⌝ }
-    ensures { λ r. ⌜ r ≡ entryStands (config h (now (table .entry))) (now (trees .entry)) (now (bits .entry)) t ⌝ }
+fn entry_stands(places: &[u8; 8], trees: &[u32], bits: &[u64], t: usize) -> bool
+    requires { ⌜ t * 32 + 32 ≤ length (now bits) ⌝ }
+    ensures { λ r. ⌜ ((h : Header) (pairs : List ℕ) → now (places .entry) ≡ h .places
+        → r ≡ entryStands (config h pairs) (now (trees .entry)) (now (bits .entry)) t) ⌝ }
 {
     let e = trees::load(trees, t);
     if e.free <= 2048 {
@@ -34,14 +29,14 @@ fn entry_stands(
 }
 
 // Each entry stands.
-pub fn entries_stand(h: Header, table: &[u32; 64], trees: &[u32], bits: &[u64]) -> bool
-    requires { ⌜ Exact (config h (now table)) (now trees) (now bits) ⌝ }
-    ensures { λ r. ⌜ r ≡ allBelow (length (now (trees .entry))) (entryStands (config h (now (table .entry))) (now (trees .entry)) (now (bits .entry))) ⌝ }
+pub fn entries_stand(h: Header, trees: &[u32], bits: &[u64]) -> bool
+    requires { ⌜ length (now bits) ≡ 32 * length (now trees) ⌝ }
+    ensures { λ r. ⌜ ((pairs : List ℕ) → r ≡ allBelow (length (now (trees .entry))) (entryStands (config h pairs) (now (trees .entry)) (now (bits .entry)))) ⌝ }
 {
     let places = h.places;
     let mut t: usize = 0;
     while t < trees.len() {
-        if !entry_stands(h, &places, table, trees, bits, t) {
+        if !entry_stands(&places, trees, bits, t) {
             return false;
         }
         t += 1;

@@ -1,5 +1,4 @@
 // What an entry yields to a requested class, by value: steal; reserve or steal.
-use rules::Header;
 use rules::Kind;
 use rules::Taken;
 use rules::Took;
@@ -7,6 +6,7 @@ use rules::Tree;
 ghost use mathlib.Core.Path.{_≡_};
 ghost use Prim.Native.Nat.{_^_, _<_};
 ghost use Rattle.rules.specs.Words.{config};
+ghost use Rattle.rules.specs.declared.Header.{Header};
 ghost use Rattle.rules.specs.Entries.{stealOf, reserveOf};
 ghost use Rattle.entry_takes.specs.Yield.{mayYield};
 
@@ -21,14 +21,14 @@ fn may_yield(t: Tree, n: usize) -> bool
 }
 
 // Steal: the entry that is left, or a refusal.
-pub fn steal(h: Header, table: &[u32; 64], t: Tree, class: usize, n: usize) -> Took
+pub fn steal(table: &[u32; 64], t: Tree, class: usize, n: usize) -> Took
     requires { ⌜ (class < 8) × (t .class < 8) ⌝ }
-    ensures { λ r. ⌜ r ≡ stealOf (config h (now (table .entry))) t class n ⌝ }
+    ensures { λ r. ⌜ ((h : Header) → r ≡ stealOf (config h (now (table .entry))) t class n) ⌝ }
 {
     if !may_yield(t, n) {
         return Took::No;
     }
-    match policy::ask(h, table, class, t.class, n) {
+    match policy::ask(table, class, t.class, n) {
         Kind::Invalid => Took::No,
         Kind::Steal => Took::Yes(Tree {
             free: t.free - n,
@@ -49,14 +49,14 @@ pub fn steal(h: Header, table: &[u32; 64], t: Tree, class: usize, n: usize) -> T
 }
 
 // Reserve or steal: the entry that is left; with the whole of it, the frames that it had.
-pub fn reserve_or_steal(h: Header, table: &[u32; 64], t: Tree, class: usize, n: usize) -> Taken
+pub fn reserve_or_steal(table: &[u32; 64], t: Tree, class: usize, n: usize) -> Taken
     requires { ⌜ (class < 8) × ((t .class < 8) × (t .free < 2 ^ 32)) ⌝ }
-    ensures { λ r. ⌜ r ≡ reserveOf (config h (now (table .entry))) t class n ⌝ }
+    ensures { λ r. ⌜ ((h : Header) → r ≡ reserveOf (config h (now (table .entry))) t class n) ⌝ }
 {
     if !may_yield(t, n) {
         return Taken::No;
     }
-    match policy::ask(h, table, class, t.class, n) {
+    match policy::ask(table, class, t.class, n) {
         Kind::Invalid => Taken::No,
         Kind::Steal => Taken::Part(Tree {
             free: t.free - n,

@@ -21,7 +21,7 @@ pub fn get(
         r (words (now (trees .exit)) (now (locals .exit)) (now (bits .exit))) ⌝ }
 {
     if state::stands(h, table, trees, locals, bits) {
-        match checks::check(h, table, q, checks::frame_of(name)) {
+        match checks::check(h, q, checks::frame_of(name)) {
             Outcome::Done => grants::reply(routes::routes(h, table, trees, locals, bits, q, name)),
             Outcome::Refused(x) => grants::refused(x),
         }

@@ -23,7 +23,7 @@ pub fn holder_stands(
     if t < headers::tree_count(h.frames) {
         let e = trees::load(trees, t);
         if e.reserved {
-            if 2 <= policy::kind_at(h, table, class, e.class) {
+            if 2 <= policy::kind_at(table, class, e.class) {
                 return e.free + l.free == bits::clear_in(bits, t);
             }
             return false;

@@ -1,20 +1,15 @@
 // The lengths of the lent buffers.
 use rules::Header;
 ghost use mathlib.Core.Path.{_≡_};
-ghost use Prim.Native.Nat.{_^_, _≤_};
+ghost use mathlib.Core.List.{List};
+ghost use Prim.Native.Nat.{ℕ, _^_, _≤_};
 ghost use Rattle.rules.specs.Words.{config};
 ghost use Rattle.ways.specs.Standing.{lengthsExact};
 
 // Lent lengths are exact: n tree words, one local word per local, 32n bitmap words.
-pub fn lengths_exact(
-    h: Header,
-    table: &[u32; 64],
-    trees: &[u32],
-    locals: &[u64],
-    bits: &[u64],
-) -> bool
+pub fn lengths_exact(h: Header, trees: &[u32], locals: &[u64], bits: &[u64]) -> bool
     requires { ⌜ h .frames ≤ 2 ^ 21 ⌝ }
-    ensures { λ r. ⌜ r ≡ lengthsExact (config h (now (table .entry))) (now (trees .entry)) (now (locals .entry)) (now (bits .entry)) ⌝ }
+    ensures { λ r. ⌜ ((pairs : List ℕ) → r ≡ lengthsExact (config h pairs) (now (trees .entry)) (now (locals .entry)) (now (bits .entry))) ⌝ }
 {
     let n = headers::tree_count(h.frames);
     if trees.len() == n {

@@ -4,11 +4,12 @@ use rules::Request;
 use ways::Routed;
 use ways::Walk;
 ghost use mathlib.Core.Path.{_≡_};
-ghost use Prim.Native.Nat.{_+_, _^_, _<_, _≤_};
+ghost use Prim.Native.Nat.{_+_, _≤_};
 ghost use Rattle.rules.specs.Words.{config};
 ghost use Rattle.ways.specs.State.{st, ended};
 ghost use Rattle.ways.specs.Walk.{tryList};
 ghost use Rattle.get_fits.specs.Fits.{Fits};
+ghost use Rattle.get_fits.specs.Room.{Room};
 ghost use Rattle.best.specs.List.{listOf};
 
 // The list is tried best first.
@@ -26,7 +27,7 @@ pub fn try_list(
     looks: usize,
     tries: usize,
 ) -> Routed
-    requires { ⌜ Fits h q × ((m ≤ 8) × ((looks < 2 ^ 31) × (tries < 2 ^ 31))) ⌝ }
+    requires { ⌜ Fits h q × ((m ≤ 8) × Room m tries) ⌝ }
     ensures { λ r. ⌜ (ended r (now (trees .exit)) (now (locals .exit)) (now (bits .exit))
         ≡ tryList (config h (now (table .entry))) q w j (listOf m best) (st (now (trees .entry)) (now (locals .entry)) (now (bits .entry)) looks tries))
         × ((r .looks ≤ looks) × (r .tries ≤ tries + m)) ⌝ }

@@ -3,9 +3,13 @@ use rules::Held;
 use rules::Local;
 use rules::Name;
 ghost use mathlib.Core.Path.{_≡_};
+ghost use mathlib.Core.Bool.{true};
 ghost use Prim.Native.Nat.{_^_, _<_};
 ghost use Rattle.rules.specs.Base.{out};
-ghost use Rattle.rules.specs.Locals.{localTake, localPut};
+ghost use Rattle.rules.specs.Words.{localAt};
+ghost use Rattle.rules.specs.Locals.{localTake, localPut, hasEnough};
+ghost use Rattle.rules.specs.declared.Name.{Name};
+ghost use Rattle.rules.specs.declared.Held.the-variants as Held;
 
 // Subtract from a local: the answer is its row.
 pub fn take(locals: &mut [u64], j: usize, name: Name, n: usize) -> Held
@@ -34,6 +38,21 @@ pub fn take(locals: &mut [u64], j: usize, name: Name, n: usize) -> Held
         };
     }
     Held::Absent
+}
+
+// Subtract from a local that has enough: the answer is its row.
+pub fn pay(locals: &mut [u64], j: usize, n: usize) -> usize
+    ensures { λ r. ⌜ ((name : Name) → hasEnough 11 (localAt (now (locals .entry)) j) name n ≡ true
+        → out (Held.Row r) (now (locals .exit)) ≡ localTake 11 (now (locals .entry)) j name n) ⌝ }
+{
+    let l = local::load(locals, j);
+    let rest = Local {
+        row: l.row,
+        free: sizes::less(l.free, n),
+        present: true,
+    };
+    local::store(locals, j, words::local_word(rest));
+    l.row
 }
 
 // Add to a local that holds the tree.

@@ -4,11 +4,12 @@ use rules::Name;
 use rules::Request;
 use ways::Routed;
 ghost use mathlib.Core.Path.{_≡_};
-ghost use Prim.Native.Nat.{_+_, _^_, _<_, _≤_};
+ghost use Prim.Native.Nat.{_+_, _≤_};
 ghost use Rattle.rules.specs.Words.{config};
 ghost use Rattle.ways.specs.State.{st, ended};
 ghost use Rattle.ways.specs.Get.{getAt};
 ghost use Rattle.get_fits.specs.Fits.{Fits};
+ghost use Rattle.get_fits.specs.Room.{Room};
 
 // Named frame: own local if given; steal globally from its tree; steal from locals; demote.
 pub fn get_at(
@@ -22,7 +23,7 @@ pub fn get_at(
     looks: usize,
     tries: usize,
 ) -> Routed
-    requires { ⌜ Fits h q × ((looks < 2 ^ 27) × (tries < 2 ^ 27)) ⌝ }
+    requires { ⌜ Fits h q × Room 4 tries ⌝ }
     ensures { λ r. ⌜ (ended r (now (trees .exit)) (now (locals .exit)) (now (bits .exit))
         ≡ getAt (config h (now (table .entry))) q f (st (now (trees .entry)) (now (locals .entry)) (now (bits .entry)) looks tries))
         × ((r .looks ≤ looks) × (r .tries ≤ tries + 4)) ⌝ }

@@ -4,10 +4,9 @@ use mathlib.Core.Bool.{true, false}
 use mathlib.Core.List.{List}
 use Prim.Native.Nat.{ℕ, _/_}
 use Rattle.rules.specs.Base.{out}
-use Rattle.rules.specs.Words.{Config, treeRows}
-use Rattle.rules.specs.Locals.{localTake, stealAny}
+use Rattle.rules.specs.Words.{Config, treeRows, localAt}
+use Rattle.rules.specs.Locals.{localTake, hasEnough, stealAny}
 use Rattle.rules.specs.declared.Name.{Name}
-use Rattle.rules.specs.declared.Held.{Held}
 use Rattle.rules.specs.declared.Held.the-variants as Held
 use Rattle.rules.specs.declared.Payer.{Payer}
 use Rattle.rules.specs.declared.Payer.the-variants as Payer
@@ -16,28 +15,22 @@ use Rattle.ways.specs.declared.Got.{Got}
 use Rattle.ways.specs.State.{State, Way, st, size, indexOf, missed, onHeld, withLocals, askLower}
 use Rattle.ways.specs.Locals.{payFrom, stealLocal, demoteLocal}
 use Rattle.ways.specs.Get.{lastRoutes}
+use Rattle.step_laws.specs.Payers.{steal-enough}
 use Rattle.ends.specs.Ends.{ends, else-ends, else-goes}
 
 module _ (c : Config) (q : Request) (name : Name) (s : State) {w : Way} where
-  -- nobody pays; the first with enough, at place j, pays and its class is answered (too few, or absent, is not reached: the definition has it)
+  -- nobody pays; the first with enough, at place j, pays and its class is answered
   module _ {i n : ℕ} {p : Payer} (from : i ≡ indexOf (q .local)) (much : n ≡ size q) (first : p ≡ stealAny c (s .locals) (q .class) i name n) where
     pub pay-nobody : p ≡ Payer.Nobody → w ≡ missed s → w ≡ stealLocal c q name s
     unfolding stealLocal payFrom
     pay-nobody e h = rw (← from, ← much, ← first, e) h
 
-    module _ {k j : ℕ} {x : Held} {ls : List ℕ} (some : p ≡ Payer.Local k j) (took : out x ls ≡ localTake (c .order) (s .locals) j name n) where
-      pub pay-row : {row class : ℕ} → x ≡ Held.Row row → w ≡ askLower c q name (row / treeRows (c .order)) row class (st (s .trees) ls (s .bits) (s .looks) (s .tries))
-          → class ≡ k → w ≡ stealLocal c q name s
-      unfolding stealLocal payFrom onHeld withLocals
-      pay-row e h its = rw (← from, ← much, ← first, some, ← much, ← took, e, ← its) h
-
-      pub pay-few : {row free : ℕ} → x ≡ Held.Few row free → w ≡ missed (st (s .trees) ls (s .bits) (s .looks) (s .tries)) → w ≡ stealLocal c q name s
-      unfolding stealLocal payFrom onHeld withLocals
-      pay-few e h = rw (← from, ← much, ← first, some, ← much, ← took, e) h
-
-      pub pay-absent : x ≡ Held.Absent → w ≡ missed (st (s .trees) ls (s .bits) (s .looks) (s .tries)) → w ≡ stealLocal c q name s
-      unfolding stealLocal payFrom onHeld withLocals
-      pay-absent e h = rw (← from, ← much, ← first, some, ← much, ← took, e) h
+    pub pay-row : {k j row class : ℕ} {ls : List ℕ} → p ≡ Payer.Local k j
+        → (hasEnough (c .order) (localAt (s .locals) j) name n ≡ true → out (Held.Row row) ls ≡ localTake (c .order) (s .locals) j name n)
+        → w ≡ askLower c q name (row / treeRows (c .order)) row class (st (s .trees) ls (s .bits) (s .looks) (s .tries))
+        → class ≡ k → w ≡ stealLocal c q name s
+    unfolding stealLocal payFrom onHeld withLocals
+    pay-row some paid h its = rw (← from, ← much, ← first, some, ← much, ← paid (steal-enough _ _ _ _ _ _ first some), ← its) h
 
 -- steal from locals, then demote
 module _ (c : Config) (q : Request) (name : Name) (s : State) {g : Got} {s1 : State} (first : out g s1 ≡ stealLocal c q name s) where

@@ -1,17 +1,17 @@
 // llfree.rs, steal_local: another local pays. And the last routes of a get: steal from locals, then demote.
 use rules::Header;
-use rules::Held;
 use rules::Name;
 use rules::Payer;
 use rules::Request;
 use ways::Routed;
 ghost use mathlib.Core.Path.{_≡_};
-ghost use Prim.Native.Nat.{_+_, _^_, _<_, _≤_};
+ghost use Prim.Native.Nat.{_+_, _≤_};
 ghost use Rattle.rules.specs.Words.{config};
 ghost use Rattle.ways.specs.State.{st, ended};
 ghost use Rattle.ways.specs.Locals.{stealLocal};
 ghost use Rattle.ways.specs.Get.{lastRoutes};
 ghost use Rattle.get_fits.specs.Fits.{Fits};
+ghost use Rattle.get_fits.specs.Room.{Room};
 
 // Steal from locals: over classes c, c+1, .. modulo 8 whose kind is Steal or Match. The first with enough pays, and its class is answered.
 fn steal_local(
@@ -25,7 +25,7 @@ fn steal_local(
     looks: usize,
     tries: usize,
 ) -> Routed
-    requires { ⌜ Fits h q × ((looks < 2 ^ 32) × (tries < 2 ^ 32)) ⌝ }
+    requires { ⌜ Fits h q × Room 1 tries ⌝ }
     ensures { λ r. ⌜ (ended r (now (trees .exit)) (now (locals .exit)) (now (bits .exit))
         ≡ stealLocal (config h (now (table .entry))) q name (st (now (trees .entry)) (now (locals .entry)) (now (bits .entry)) looks tries))
         × ((r .looks ≤ looks) × (r .tries ≤ tries + 1)) ⌝ }
@@ -37,13 +37,8 @@ fn steal_local(
     let Payer::Local { class, slot } = payer else {
         return ends::missed(looks, tries);
     };
-    match local_frames::take(locals, slot, name, n) {
-        Held::Row(row) => {
-            steps::ask_lower(h, table, trees, bits, q, name, row, class, looks, tries)
-        }
-        Held::Few { row: _, free: _ } => ends::missed(looks, tries),
-        Held::Absent => ends::missed(looks, tries),
-    }
+    let row = local_frames::pay(locals, slot, n);
+    steps::ask_lower(h, table, trees, bits, q, name, row, class, looks, tries)
 }
 
 // Steal from locals, then demote.
@@ -58,7 +53,7 @@ pub fn last_routes(
     looks: usize,
     tries: usize,
 ) -> Routed
-    requires { ⌜ Fits h q × ((looks < 2 ^ 31) × (tries < 2 ^ 31)) ⌝ }
+    requires { ⌜ Fits h q × Room 2 tries ⌝ }
     ensures { λ r. ⌜ (ended r (now (trees .exit)) (now (locals .exit)) (now (bits .exit))
         ≡ lastRoutes (config h (now (table .entry))) q name (st (now (trees .entry)) (now (locals .entry)) (now (bits .entry)) looks tries))
         × ((r .looks ≤ looks) × (r .tries ≤ tries + 2)) ⌝ }

@@ -37,7 +37,7 @@ fn payer_at(
     ensures { λ r. ⌜ r ≡ payerAt (pick demote mayMove mayPay) (config h (now (table .entry))) (now (locals .entry)) class from name n k ⌝ }
 {
     if headers::is_configured(h, k) {
-        if may(demote, policy::ask(h, table, class, k, n)) {
+        if may(demote, policy::ask(table, class, k, n)) {
             return first_local::first_local(h, locals, k, from, name, n);
         }
         return Payer::Nobody;

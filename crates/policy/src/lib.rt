@@ -1,9 +1,9 @@
 // The policy lookup: the word of a pair of classes, its answer, and which answers let a local pay or its reservation move. By value: no buffer but the table.
-use rules::Header;
 use rules::Kind;
 ghost use mathlib.Core.Path.{_≡_};
 ghost use Prim.Native.Nat.{_<_};
 ghost use Rattle.rules.specs.Words.{config};
+ghost use Rattle.rules.specs.declared.Header.{Header};
 ghost use Rattle.rules.specs.Policy.{pairOf, policyOf, policy, kindAt};
 ghost use Rattle.rules.specs.Locals.{mayPay, mayMove};
 
@@ -27,27 +27,27 @@ pub fn policy_of(w: u32, free: usize) -> Kind
 }
 
 // The word of a pair of classes.
-pub fn pair_at(h: Header, table: &[u32; 64], requested: usize, target: usize) -> u32
+pub fn pair_at(table: &[u32; 64], requested: usize, target: usize) -> u32
     requires { ⌜ (requested < 8) × (target < 8) ⌝ }
-    ensures { λ r. ⌜ r ≡ pairOf (config h (now (table .entry))) requested target ⌝ }
+    ensures { λ r. ⌜ ((h : Header) → r ≡ pairOf (config h (now (table .entry))) requested target) ⌝ }
 {
     table[requested * 8 + target]
 }
 
 // The policy: a requested and a target class, asked with a number of free frames.
-pub fn ask(h: Header, table: &[u32; 64], requested: usize, target: usize, free: usize) -> Kind
+pub fn ask(table: &[u32; 64], requested: usize, target: usize, free: usize) -> Kind
     requires { ⌜ (requested < 8) × (target < 8) ⌝ }
-    ensures { λ r. ⌜ r ≡ policy (config h (now (table .entry))) requested target free ⌝ }
+    ensures { λ r. ⌜ ((h : Header) → r ≡ policy (config h (now (table .entry))) requested target free) ⌝ }
 {
-    policy_of(pair_at(h, table, requested, target), free)
+    policy_of(pair_at(table, requested, target), free)
 }
 
 // The kind of a pair of classes: Invalid 0, Steal 1, Demote 2 or Match 3.
-pub fn kind_at(h: Header, table: &[u32; 64], requested: usize, target: usize) -> u32
+pub fn kind_at(table: &[u32; 64], requested: usize, target: usize) -> u32
     requires { ⌜ (requested < 8) × (target < 8) ⌝ }
-    ensures { λ r. ⌜ r ≡ kindAt (config h (now (table .entry))) requested target ⌝ }
+    ensures { λ r. ⌜ ((h : Header) → r ≡ kindAt (config h (now (table .entry))) requested target) ⌝ }
 {
-    pair_at(h, table, requested, target) % 4
+    pair_at(table, requested, target) % 4
 }
 
 // Whether a kind pays: Steal or Match.

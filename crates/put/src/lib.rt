@@ -19,7 +19,7 @@ pub fn put(
         r (words (now (trees .exit)) (now (locals .exit)) (now (bits .exit))) ⌝ }
 {
     if state::stands(h, table, trees, locals, bits) {
-        match checks::check(h, table, q, frame) {
+        match checks::check(h, q, frame) {
             Outcome::Done => put_body::put_body(h, table, trees, locals, bits, q, frame),
             Outcome::Refused(x) => Outcome::Refused(x),
         }

@@ -1,5 +1,4 @@
 // The rating of a tree in each of the three walks, by the policy's answer.
-use rules::Header;
 use rules::Kind;
 use rules::Request;
 use rules::Tree;
@@ -8,6 +7,7 @@ ghost use mathlib.Core.Path.{_≡_};
 ghost use Prim.Native.Nat.{_<_, _≤_};
 ghost use lib.Dec.{eqb};
 ghost use Rattle.rules.specs.Words.{config};
+ghost use Rattle.rules.specs.declared.Header.{Header};
 ghost use Rattle.rules.specs.Policy.{policyOf};
 ghost use Rattle.ways.specs.Walk.{ratedIn, rate};
 ghost use Rattle.ratings.specs.Rating.{ratingOf};
@@ -58,9 +58,9 @@ fn rated_of(w: u32, walk: Walk, free: usize) -> usize
 }
 
 // The rating of a tree in a walk: 0 where it is reserved or has too little free.
-pub fn rate(h: Header, table: &[u32; 64], q: Request, walk: Walk, e: Tree) -> usize
+pub fn rate(table: &[u32; 64], q: Request, walk: Walk, e: Tree) -> usize
     requires { ⌜ (q .order ≤ 11) × ((q .class < 8) × (e .class < 8)) ⌝ }
-    ensures { λ r. ⌜ (r ≡ rate (config h (now (table .entry))) q walk e) × (r ≤ 258) ⌝ }
+    ensures { λ r. ⌜ ((h : Header) → r ≡ rate (config h (now (table .entry))) q walk e) × (r ≤ 258) ⌝ }
 {
     if e.reserved {
         return 0;
@@ -68,5 +68,5 @@ pub fn rate(h: Header, table: &[u32; 64], q: Request, walk: Walk, e: Tree) -> us
     if e.free < sizes::size(q.order) {
         return 0;
     }
-    rated_of(policy::pair_at(h, table, q.class, e.class), walk, e.free)
+    rated_of(policy::pair_at(table, q.class, e.class), walk, e.free)
 }

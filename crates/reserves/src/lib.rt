@@ -14,6 +14,7 @@ ghost use Rattle.rules.specs.Locals.{reservation};
 ghost use Rattle.ways.specs.State.{st, ended, stuck};
 ghost use Rattle.ways.specs.Walk.{reserved};
 ghost use Rattle.get_fits.specs.Fits.{Fits};
+ghost use Rattle.get_fits.specs.Room.{Room};
 
 // A reservation of tree t, at its first row.
 fn reservation(t: usize, free: usize) -> Local
@@ -52,7 +53,7 @@ pub fn reserved(
     looks: usize,
     tries: usize,
 ) -> Routed
-    requires { ⌜ Fits h q × ((t < 2 ^ 53) × ((looks < 2 ^ 32) × (tries < 2 ^ 32))) ⌝ }
+    requires { ⌜ Fits h q × ((t < 2 ^ 53) × Room 1 tries) ⌝ }
     ensures { λ r. ⌜ (ended r (now (trees .exit)) (now (locals .exit)) (now (bits .exit))
         ≡ reserved (config h (now (table .entry))) q j t old (st (now (trees .entry)) (now (locals .entry)) (now (bits .entry)) looks tries))
         × ((r .looks ≤ looks) × (r .tries ≤ tries + 1)) ⌝ }

@@ -6,7 +6,8 @@ use rules::Request;
 use ways::Got;
 use ways::Routed;
 ghost use mathlib.Core.Path.{_≡_};
-ghost use Prim.Native.Nat.{_*_, _/_, _^_, _<_, _≤_};
+ghost use mathlib.Core.List.{List};
+ghost use Prim.Native.Nat.{ℕ, _*_, _/_, _^_, _<_, _≤_};
 ghost use Rattle.rules.specs.Words.{config};
 ghost use Rattle.rules.specs.declared.Given.the-variants as Given;
 ghost use Rattle.ways.specs.State.{st, ended, indexOf};
@@ -27,9 +28,9 @@ fn portion(n: usize, m: usize, i: usize) -> usize
 }
 
 // The start tree of the local i: (n / locals, rounded down) times the local, or 0 with no locals.
-fn start_tree(h: Header, table: &[u32; 64], q: Request, i: usize) -> usize
+fn start_tree(h: Header, q: Request, i: usize) -> usize
     requires { ⌜ Fits h q × (i < 2 ^ 32) ⌝ }
-    ensures { λ r. ⌜ (r ≡ startTree (config h (now (table .entry))) q (Given.Local i)) × (r < 2 ^ 44) ⌝ }
+    ensures { λ r. ⌜ ((pairs : List ℕ) → r ≡ startTree (config h pairs) q (Given.Local i)) × (r < 2 ^ 44) ⌝ }
 {
     let m = headers::locals_of(h, q.class);
     if m == 0 {
@@ -51,9 +52,9 @@ fn start_after(got: Got, start: usize) -> usize
 }
 
 // Whether the own local is asked and the search reserves: a local is given, and its class has fewer locals than there are trees.
-fn is_reserving(h: Header, table: &[u32; 64], q: Request, local: Given) -> bool
+fn is_reserving(h: Header, q: Request, local: Given) -> bool
     requires { ⌜ Fits h q ⌝ }
-    ensures { λ r. ⌜ r ≡ reserving (config h (now (table .entry))) q local ⌝ }
+    ensures { λ r. ⌜ ((pairs : List ℕ) → r ≡ reserving (config h pairs) q local) ⌝ }
 {
     match local {
         Given::Local(_) => headers::locals_of(h, q.class) < headers::tree_count(h.frames),
@@ -74,11 +75,11 @@ fn search_trees(
     requires { ⌜ Fits h q × (indexOf local < 2 ^ 32) ⌝ }
     ensures { λ r. ⌜ (ended r (now (trees .exit)) (now (locals .exit)) (now (bits .exit))
         ≡ searchTrees (config h (now (table .entry))) q local (st (now (trees .entry)) (now (locals .entry)) (now (bits .entry)) 0 0))
-        × ((r .looks ≤ 4096) × (r .tries ≤ 8193)) ⌝ }
+        × ((r .looks ≤ 1088) × (r .tries ≤ 1100)) ⌝ }
 {
     let i = steps::index_of(local);
-    let start = start_tree(h, table, q, i);
-    if !is_reserving(h, table, q, local) {
+    let start = start_tree(h, q, i);
+    if !is_reserving(h, q, local) {
         return search::search_and_steal(h, table, trees, locals, bits, q, start, 0, 0);
     }
     let j = headers::slot(h, q.class, i);

@@ -11,6 +11,7 @@ ghost use Rattle.ways.specs.State.{st, ended};
 ghost use Rattle.ways.specs.Walk.{searchBest};
 ghost use Rattle.ways.specs.Search.{searchAndReserve, searchAndSteal};
 ghost use Rattle.get_fits.specs.Fits.{Fits};
+ghost use Rattle.get_fits.specs.Room.{Room};
 ghost use Rattle.search.specs.Near.{nearFirst};
 
 // A walk over all trees, the far or the stealing one: 0 to n, with a list of 8.
@@ -27,7 +28,7 @@ fn search_all(
     looks: usize,
     tries: usize,
 ) -> Routed
-    requires { ⌜ Fits h q × ((start < 2 ^ 44) × ((looks < 2 ^ 29) × (tries < 2 ^ 29))) ⌝ }
+    requires { ⌜ Fits h q × ((start < 2 ^ 44) × (Room 1024 looks × Room 1032 tries)) ⌝ }
     ensures { λ r. ⌜ (ended r (now (trees .exit)) (now (locals .exit)) (now (bits .exit))
         ≡ searchBest (config h (now (table .entry))) q w j 8 (treeCount 11 (h .frames)) start 0 (treeCount 11 (h .frames))
         (st (now (trees .entry)) (now (locals .entry)) (now (bits .entry)) looks tries))
@@ -57,7 +58,7 @@ fn search_near(
     looks: usize,
     tries: usize,
 ) -> Routed
-    requires { ⌜ Fits h q × ((start < 2 ^ 44) × ((looks < 2 ^ 29) × (tries < 2 ^ 29))) ⌝ }
+    requires { ⌜ Fits h q × ((start < 2 ^ 44) × (Room 64 looks × Room 67 tries)) ⌝ }
     ensures { λ r. ⌜ (ended r (now (trees .exit)) (now (locals .exit)) (now (bits .exit))
         ≡ nearFirst (config h (now (table .entry))) q j start (st (now (trees .entry)) (now (locals .entry)) (now (bits .entry)) looks tries))
         × ((r .looks ≤ looks + 64) × (r .tries ≤ tries + 67)) ⌝ }
@@ -91,10 +92,10 @@ pub fn search_and_reserve(
     looks: usize,
     tries: usize,
 ) -> Routed
-    requires { ⌜ Fits h q × ((start < 2 ^ 44) × ((looks < 2 ^ 28) × (tries < 2 ^ 28))) ⌝ }
+    requires { ⌜ Fits h q × ((start < 2 ^ 44) × (Room 1088 looks × Room 1099 tries)) ⌝ }
     ensures { λ r. ⌜ (ended r (now (trees .exit)) (now (locals .exit)) (now (bits .exit))
         ≡ searchAndReserve (config h (now (table .entry))) q j start (st (now (trees .entry)) (now (locals .entry)) (now (bits .entry)) looks tries))
-        × ((r .looks ≤ looks + 2048) × (r .tries ≤ tries + 2048)) ⌝ }
+        × ((r .looks ≤ looks + 1088) × (r .tries ≤ tries + 1099)) ⌝ }
 {
     let n = headers::tree_count(h.frames);
     let from = spans::rounded_start(n, start);
@@ -131,10 +132,10 @@ pub fn search_and_steal(
     looks: usize,
     tries: usize,
 ) -> Routed
-    requires { ⌜ Fits h q × ((start < 2 ^ 44) × ((looks < 2 ^ 28) × (tries < 2 ^ 28))) ⌝ }
+    requires { ⌜ Fits h q × ((start < 2 ^ 44) × (Room 1024 looks × Room 1032 tries)) ⌝ }
     ensures { λ r. ⌜ (ended r (now (trees .exit)) (now (locals .exit)) (now (bits .exit))
         ≡ searchAndSteal (config h (now (table .entry))) q start (st (now (trees .entry)) (now (locals .entry)) (now (bits .entry)) looks tries))
-        × ((r .looks ≤ looks + 2048) × (r .tries ≤ tries + 2048)) ⌝ }
+        × ((r .looks ≤ looks + 1024) × (r .tries ≤ tries + 1032)) ⌝ }
 {
     let w = Walk::Stealing;
     search_all(h, table, trees, locals, bits, q, w, 0, start, looks, tries)

@@ -10,6 +10,7 @@ ghost use Rattle.rules.specs.Words.{config};
 ghost use Rattle.ways.specs.State.{st, ended};
 ghost use Rattle.ways.specs.Walk.{searchBest};
 ghost use Rattle.get_fits.specs.Fits.{Fits};
+ghost use Rattle.get_fits.specs.Room.{Room};
 
 // A walk, then its list.
 pub fn search_best(
@@ -25,13 +26,13 @@ pub fn search_best(
     looks: usize,
     tries: usize,
 ) -> Routed
-    requires { ⌜ Fits h q × ((p .m ≤ 8) × (((0 < p .n) × (p .n ≤ 1024)) × ((p .start < 2 ^ 44) × ((p .last ≤ 1024) × ((looks < 2 ^ 30) × (tries < 2 ^ 30)))))) ⌝ }
+    requires { ⌜ Fits h q × ((p .m ≤ 8) × (((0 < p .n) × (p .n ≤ 1024)) × ((p .start < 2 ^ 44) × ((p .last ≤ 1024) × (Room (p .last) looks × Room (p .last + p .m) tries))))) ⌝ }
     ensures { λ r. ⌜ (ended r (now (trees .exit)) (now (locals .exit)) (now (bits .exit))
         ≡ searchBest (config h (now (table .entry))) q w j (p .m) (p .n) (p .start) (p .first) (p .last) (st (now (trees .entry)) (now (locals .entry)) (now (bits .entry)) looks tries))
         × ((r .looks ≤ looks + p .last) × (r .tries ≤ tries + (p .last + p .m))) ⌝ }
 {
     let mut asked = tries;
-    let mut s = walk::walk_on(h, table, trees, q, w, p, p.first, [0; 8], looks);
+    let mut s = walk::walk_on(table, trees, q, w, p, p.first, [0; 8], looks);
     while s.at < p.last {
         let t = spans::place(p.n, p.start, s.at);
         let seen = s.looks + 1;
@@ -42,7 +43,7 @@ pub fn search_best(
         }
         asked = a.tries;
         let list = s.best;
-        s = walk::walk_on(h, table, trees, q, w, p, s.at + 1, list, a.looks);
+        s = walk::walk_on(table, trees, q, w, p, s.at + 1, list, a.looks);
     }
     let m = p.m;
     let list = s.best;

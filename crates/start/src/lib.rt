@@ -17,7 +17,7 @@ pub fn start(
         r (words (now (trees .exit)) (now (locals .exit)) (now (bits .exit))) ⌝ }
 {
     if accept::accepts(h, table) {
-        if lengths::lengths_exact(h, table, trees, locals, bits) {
+        if lengths::lengths_exact(h, trees, locals, bits) {
             start_body::start_body(h, trees, locals, bits, free);
             return Outcome::Done;
         }

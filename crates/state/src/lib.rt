@@ -9,8 +9,8 @@ pub fn stands(h: Header, table: &[u32; 64], trees: &[u32], locals: &[u64], bits:
     ensures { λ r. ⌜ r ≡ standing (config h (now (table .entry))) (now (trees .entry)) (now (locals .entry)) (now (bits .entry)) ⌝ }
 {
     if accept::accepts(h, table) {
-        if lengths::lengths_exact(h, table, trees, locals, bits) {
-            if entry_rules::entries_stand(h, table, trees, bits) {
+        if lengths::lengths_exact(h, trees, locals, bits) {
+            if entry_rules::entries_stand(h, trees, bits) {
                 if local_rules::locals_stand(h, table, trees, locals, bits) {
                     if holders::apart(locals) {
                         if holders::reserved_count(trees) == holders::present_count(locals) {

@@ -15,6 +15,7 @@ ghost use Rattle.rules.specs.declared.Request.{Request};
 ghost use Rattle.ways.specs.State.{State, st, ended};
 ghost use Rattle.ways.specs.Walk.{stealGlobal, reserveOrSteal, access};
 ghost use Rattle.get_fits.specs.Fits.{Fits};
+ghost use Rattle.get_fits.specs.Room.{Room};
 
 // Steal globally, from the entry of tree t.
 pub fn steal_global(
@@ -29,12 +30,12 @@ pub fn steal_global(
     looks: usize,
     tries: usize,
 ) -> Routed
-    requires { ⌜ Fits h q × ((t < 2 ^ 53) × ((looks < 2 ^ 32) × (tries < 2 ^ 32))) ⌝ }
+    requires { ⌜ Fits h q × ((t < 2 ^ 53) × Room 1 tries) ⌝ }
     ensures { λ r. ⌜ (ended r (now (trees .exit)) (now (locals .exit)) (now (bits .exit))
         ≡ stealGlobal (config h (now (table .entry))) q name t (st (now (trees .entry)) (now (locals .entry)) (now (bits .entry)) looks tries))
         × ((r .looks ≤ looks) × (r .tries ≤ tries + 1)) ⌝ }
 {
-    match tree_takes::steal(h, table, trees, t, q.class, sizes::size(q.order)) {
+    match tree_takes::steal(table, trees, t, q.class, sizes::size(q.order)) {
         Took::No => ends::missed(looks, tries),
         Took::Yes(e) => {
             let row = t * 32;
@@ -56,12 +57,12 @@ fn reserve_or_steal(
     looks: usize,
     tries: usize,
 ) -> Routed
-    requires { ⌜ Fits h q × ((t < 2 ^ 53) × ((looks < 2 ^ 32) × (tries < 2 ^ 32))) ⌝ }
+    requires { ⌜ Fits h q × ((t < 2 ^ 53) × Room 1 tries) ⌝ }
     ensures { λ r. ⌜ (ended r (now (trees .exit)) (now (locals .exit)) (now (bits .exit))
         ≡ reserveOrSteal (config h (now (table .entry))) q j t (st (now (trees .entry)) (now (locals .entry)) (now (bits .entry)) looks tries))
         × ((r .looks ≤ looks) × (r .tries ≤ tries + 1)) ⌝ }
 {
-    match tree_takes::reserve_or_steal(h, table, trees, t, q.class, sizes::size(q.order)) {
+    match tree_takes::reserve_or_steal(table, trees, t, q.class, sizes::size(q.order)) {
         Taken::No => ends::missed(looks, tries),
         Taken::Part(e) => {
             let name = Name::Any;
@@ -100,7 +101,7 @@ pub fn access(
     looks: usize,
     tries: usize,
 ) -> Routed
-    requires { ⌜ Fits h q × ((t < 2 ^ 53) × ((looks < 2 ^ 32) × (tries < 2 ^ 32))) ⌝ }
+    requires { ⌜ Fits h q × ((t < 2 ^ 53) × Room 1 tries) ⌝ }
     ensures { λ r. ⌜ (ended r (now (trees .exit)) (now (locals .exit)) (now (bits .exit))
         ≡ access (config h (now (table .entry))) q walk j t (st (now (trees .entry)) (now (locals .entry)) (now (bits .entry)) looks tries))
         × ((r .looks ≤ looks) × (r .tries ≤ tries + 1)) ⌝ }

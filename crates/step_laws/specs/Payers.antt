@@ -1,5 +1,5 @@
 -- Which local pays: one of a configured class whose kind passes, with enough, and on the named tree; and that none can where nobody does. Assumes nothing.
-use mathlib.Core.Path.{_≡_, refl, sym, subst}
+use mathlib.Core.Path.{_≡_, refl, sym, subst, _∙_}
 use mathlib.Core.Bool.{Bool, true, false}
 use mathlib.Core.Logic.{_⊎_, inl, inr}
 use mathlib.Core.List.{List}
@@ -7,11 +7,11 @@ use Prim.Native.Nat.{ℕ, zero, suc, _+_, _%_, _<_, _≤_}
 use native.Mathlib.Nat.{mod-lt}
 use native.Mathlib.Omega.{arith}
 use lib.Dec.{leb}
-use borrow.Author.Tests.{leb-true}
+use borrow.Author.Tests.{leb-true, le-leb}
 use Rattle.rules.specs.Base.{pick, both, firstIn}
 use Rattle.rules.specs.Words.{Config, configured, localsOf, slot, localAt}
 use Rattle.rules.specs.Policy.{policy, Configured}
-use Rattle.rules.specs.Locals.{inTree, hasEnough, cyclic, firstLocal, payerOr, mayPay, mayMove, payerIn}
+use Rattle.rules.specs.Locals.{inTree, hasEnough, cyclic, firstLocal, payerOr, mayPay, mayMove, payerIn, stealAny, demoteAny}
 use Rattle.rules.specs.declared.Local.{Local}
 use Rattle.rules.specs.declared.Kind.{Kind}
 use Rattle.rules.specs.declared.Kind.the-variants.{Invalid, Steal, Demote, Match}
@@ -41,6 +41,10 @@ enough-fact z l name n h = go (l .present) refl (inTree z (l .row) name) refl h
     go true p true q r = record { present = p; named = q; enough = leb-true _ _ r }
     go true p false q r = absurd (let x : _≡_ {A = ℕ} 0 1 = cc in omega arith)
     go false p b q r = absurd (let x : _≡_ {A = ℕ} 0 1 = cc in omega arith)
+
+pub has-enough : {z : ℕ} {l : Local} {name : Name} {n : ℕ} → Enough z l name n → hasEnough z l name n ≡ true
+unfolding hasEnough
+has-enough E = rw (E .present, E .named, le-leb _ _ (E .enough))
 
 -- the payer for class k: the local at place j, of class e, whose kind passes the test p
 pub record Pays (p : Kind → Bool) (c : Config) (ls : List ℕ) (k : ℕ) (name : Name) (n e j : ℕ) : Type 0 where
@@ -114,6 +118,23 @@ module _ (p : Kind → Bool) (c : Config) (ls : List ℕ) (k from : ℕ) (name :
   -- the same, whoever pays
   pub payer-ind : (Q : Payer → Type 0) → Q Payer.Nobody → ((e j : ℕ) → Pays p c ls k name n e j → Q (Payer.Local e j)) → (m i : ℕ) → Q (payerIn p c ls k from name n i m)
   payer-ind Q nobody local m i = payer-both Q m i (λ _. nobody) (λ d j _ _ P. local ((k + d) % 8) j P)
+
+  payer-enough : (m i : ℕ) {x : Payer} {e j : ℕ} → x ≡ payerIn p c ls k from name n i m → x ≡ Payer.Local e j → hasEnough (c .order) (localAt ls j) name n ≡ true
+  payer-enough m i {x} {e} {j} first some =
+      payer-ind (λ (y : Payer). y ≡ Payer.Local e j → hasEnough (c .order) (localAt ls j) name n ≡ true)
+      (λ is. absurd (let z : _≡_ {A = ℕ} 0 1 = cc in omega arith))
+      (λ d l P is. let at : l ≡ j = cc in subst (λ (y : ℕ). hasEnough (c .order) (localAt ls y) name n ≡ true) at (has-enough (P .has)))
+      m i (sym first ∙ some)
+
+-- so one that pays has enough, and so has one whose reservation moves
+module _ (c : Config) (ls : List ℕ) (k from : ℕ) (name : Name) (n : ℕ) {x : Payer} {e j : ℕ} where
+  pub steal-enough : x ≡ stealAny c ls k from name n → x ≡ Payer.Local e j → hasEnough (c .order) (localAt ls j) name n ≡ true
+  unfolding stealAny
+  steal-enough first some = payer-enough mayPay c ls k from name n 8 0 first some
+
+  pub demote-enough : x ≡ demoteAny c ls k from name n → x ≡ Payer.Local e j → hasEnough (c .order) (localAt ls j) name n ≡ true
+  unfolding demoteAny
+  demote-enough first some = payer-enough mayMove c ls k from name n 7 1 first some
 
 -- ---- the kinds of classes that pay, and of those whose reservation moves
 pub pay-kind : (d : Kind) → mayPay d ≡ true → (kindNumber d ≡ 1) ⊎ (kindNumber d ≡ 3)

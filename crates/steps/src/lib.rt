@@ -7,10 +7,11 @@ use rules::Request;
 use ways::Routed;
 ghost use mathlib.Core.Path.{_≡_};
 ghost use mathlib.Core.List.{List};
-ghost use Prim.Native.Nat.{ℕ, _+_, _/_, _^_, _<_, _≤_};
+ghost use Prim.Native.Nat.{ℕ, _+_, _/_, _≤_};
 ghost use Rattle.rules.specs.Words.{config};
 ghost use Rattle.ways.specs.State.{st, ended, indexOf, askLower};
 ghost use Rattle.get_fits.specs.Fits.{Fits};
+ghost use Rattle.get_fits.specs.Room.{Room};
 
 // The given index, 0 if none.
 pub fn index_of(local: Given) -> usize
@@ -35,7 +36,7 @@ pub fn ask_lower(
     looks: usize,
     tries: usize,
 ) -> Routed
-    requires { ⌜ Fits h q × ((looks < 2 ^ 32) × (tries < 2 ^ 32)) ⌝ }
+    requires { ⌜ Fits h q × Room 1 tries ⌝ }
     ensures { λ r. ⌜ ((l : List ℕ) → ended r (now (trees .exit)) l (now (bits .exit))
         ≡ askLower (config h (now (table .entry))) q name (row / 32) row class (st (now (trees .entry)) l (now (bits .entry)) looks tries))
         × ((r .looks ≤ looks) × (r .tries ≤ tries + 1)) ⌝ }

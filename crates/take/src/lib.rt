@@ -11,6 +11,7 @@ ghost use Rattle.rules.specs.Words.{config};
 ghost use Rattle.ways.specs.State.{st, ended, indexOf};
 ghost use Rattle.ways.specs.Locals.{topUp, getLocal, ownLocal};
 ghost use Rattle.get_fits.specs.Fits.{Fits};
+ghost use Rattle.get_fits.specs.Room.{Room};
 
 // Subtract, and ask the lower at the local's row; where it holds too few, or another tree than the named one, top it up.
 pub fn get_local(
@@ -26,7 +27,7 @@ pub fn get_local(
     looks: usize,
     tries: usize,
 ) -> Routed
-    requires { ⌜ Fits h q × ((syncs < 2) × ((looks < 2 ^ 32) × (tries < 2 ^ 32))) ⌝ }
+    requires { ⌜ Fits h q × ((syncs < 2) × Room 1 tries) ⌝ }
     ensures { λ r. ⌜ (ended r (now (trees .exit)) (now (locals .exit)) (now (bits .exit))
         ≡ getLocal syncs (config h (now (table .entry))) q name j (st (now (trees .entry)) (now (locals .entry)) (now (bits .entry)) looks tries))
         × ((r .looks ≤ looks) × (r .tries ≤ tries + 1)) ⌝ }
@@ -68,7 +69,7 @@ fn top_up(
     looks: usize,
     tries: usize,
 ) -> Routed
-    requires { ⌜ Fits h q × ((syncs < 2) × ((looks < 2 ^ 32) × (tries < 2 ^ 32))) ⌝ }
+    requires { ⌜ Fits h q × ((syncs < 2) × Room 1 tries) ⌝ }
     ensures { λ r. ⌜ (ended r (now (trees .exit)) (now (locals .exit)) (now (bits .exit))
         ≡ topUp syncs (config h (now (table .entry))) q name j row free (st (now (trees .entry)) (now (locals .entry)) (now (bits .entry)) looks tries))
         × ((r .looks ≤ looks) × (r .tries ≤ tries + 1)) ⌝ }
@@ -97,7 +98,7 @@ pub fn own_local(
     looks: usize,
     tries: usize,
 ) -> Routed
-    requires { ⌜ Fits h q × ((indexOf local < 2 ^ 32) × ((looks < 2 ^ 32) × (tries < 2 ^ 32))) ⌝ }
+    requires { ⌜ Fits h q × ((indexOf local < 2 ^ 32) × Room 1 tries) ⌝ }
     ensures { λ r. ⌜ (ended r (now (trees .exit)) (now (locals .exit)) (now (bits .exit))
         ≡ ownLocal (config h (now (table .entry))) q name local (st (now (trees .entry)) (now (locals .entry)) (now (bits .entry)) looks tries))
         × ((r .looks ≤ looks) × (r .tries ≤ tries + 1)) ⌝ }

@@ -3,16 +3,17 @@ use by_class::Entries;
 use rules::Header;
 use ways::Tally;
 ghost use mathlib.Core.Path.{_≡_};
-ghost use Prim.Native.Nat.{_^_, _<_, _≤_};
+ghost use mathlib.Core.List.{List};
+ghost use Prim.Native.Nat.{ℕ, _^_, _<_, _≤_};
 ghost use lib.ListN.{getD};
 ghost use Rattle.rules.specs.Words.{config};
 ghost use Rattle.ways.specs.Statistics.{localFree, tally};
 ghost use Rattle.tallies.specs.Rows.{rowsOf, rowOf};
 
 // The free of the locals of a class.
-fn local_free(h: Header, table: &[u32; 64], locals: &[u64], class: usize) -> usize
+fn local_free(h: Header, locals: &[u64], class: usize) -> usize
     requires { ⌜ class < 8 ⌝ }
-    ensures { λ r. ⌜ (r ≡ localFree (config h (now (table .entry))) (now (locals .entry)) class) × (r ≤ 2 ^ 27) ⌝ }
+    ensures { λ r. ⌜ ((pairs : List ℕ) → r ≡ localFree (config h pairs) (now (locals .entry)) class) × (r ≤ 2 ^ 27) ⌝ }
 {
     let first = headers::first_slot(h, class);
     let n = headers::locals_of(h, class);
@@ -43,18 +44,11 @@ fn row(e: Entries, more: usize, reserved: [usize; 8], class: usize) -> Tally
 }
 
 // The row of a class.
-fn class_row(
-    h: Header,
-    table: &[u32; 64],
-    locals: &[u64],
-    e: Entries,
-    reserved: [usize; 8],
-    class: usize,
-) -> Tally
+fn class_row(h: Header, locals: &[u64], e: Entries, reserved: [usize; 8], class: usize) -> Tally
     requires { ⌜ (class < 8) × ((getD (e .free) class 0 < 2 ^ 40) × (getD (e .trees) class 0 < 2 ^ 40)) ⌝ }
-    ensures { λ r. ⌜ r ≡ rowOf 11 e (localFree (config h (now (table .entry))) (now (locals .entry)) class) reserved class ⌝ }
+    ensures { λ r. ⌜ ((pairs : List ℕ) → r ≡ rowOf 11 e (localFree (config h pairs) (now (locals .entry)) class) reserved class) ⌝ }
 {
-    row(e, local_free(h, table, locals, class), reserved, class)
+    row(e, local_free(h, locals, class), reserved, class)
 }
 
 // The eight rows, one for each class.
@@ -71,20 +65,20 @@ pub struct Rows {
 }
 
 // The rows of all classes.
-pub fn all_rows<'a>(h: Header, table: &'a [u32; 64], trees: &'a [u32], locals: &'a [u64]) -> Rows
+pub fn all_rows<'a>(h: Header, trees: &'a [u32], locals: &'a [u64]) -> Rows
     requires { ⌜ h .frames ≤ 2 ^ 21 ⌝ }
-    ensures { λ r. ⌜ r ≡ rowsOf (tally (config h (now (table .entry))) (now (trees .entry)) (now (locals .entry))) ⌝ }
+    ensures { λ r. ⌜ ((pairs : List ℕ) → r ≡ rowsOf (tally (config h pairs) (now (trees .entry)) (now (locals .entry)))) ⌝ }
 {
     let e = by_class::entries_by_class(trees, headers::tree_count(h.frames));
     let held = by_class::reserved_by_class(trees, locals, headers::local_count(h));
     Rows {
-        r0: class_row(h, table, locals, e, held, 0),
-        r1: class_row(h, table, locals, e, held, 1),
-        r2: class_row(h, table, locals, e, held, 2),
-        r3: class_row(h, table, locals, e, held, 3),
-        r4: class_row(h, table, locals, e, held, 4),
-        r5: class_row(h, table, locals, e, held, 5),
-        r6: class_row(h, table, locals, e, held, 6),
-        r7: class_row(h, table, locals, e, held, 7),
+        r0: class_row(h, locals, e, held, 0),
+        r1: class_row(h, locals, e, held, 1),
+        r2: class_row(h, locals, e, held, 2),
+        r3: class_row(h, locals, e, held, 3),
+        r4: class_row(h, locals, e, held, 4),
+        r5: class_row(h, locals, e, held, 5),
+        r6: class_row(h, locals, e, held, 6),
+        r7: class_row(h, locals, e, held, 7),
     }
 }

@@ -58,8 +58,8 @@ pub fn tell<'a>(
 {
     if state::stands(h, table, trees, locals, bits) {
         if n == 8 {
-            let whole = totals::totals(h, table, trees, locals);
-            let rows = tallies::all_rows(h, table, trees, locals);
+            let whole = totals::totals(h, trees, locals);
+            let rows = tallies::all_rows(h, trees, locals);
             return Stats {
                 done: true,
                 totals: Totals {

@@ -1,7 +1,8 @@
 // The whole of the statistics by value: total free and free trees.
 use rules::Header;
 ghost use mathlib.Core.Path.{_≡_};
-ghost use Prim.Native.Nat.{_^_, _<_, _≤_};
+ghost use mathlib.Core.List.{List};
+ghost use Prim.Native.Nat.{ℕ, _^_, _<_, _≤_};
 ghost use Rattle.rules.specs.Words.{config};
 ghost use Rattle.ways.specs.Statistics.{totalFree, freeTrees};
 ghost use Rattle.totals.specs.Wholes.{entriesFree, entriesWhole, localsFree, localsWhole};
@@ -51,10 +52,10 @@ fn locals_whole(locals: &[u64], n: usize) -> Whole
 }
 
 // Total free sums entries and locals; free trees are each entry's and each local's, rounded down, then summed.
-pub fn totals(h: Header, table: &[u32; 64], trees: &[u32], locals: &[u64]) -> Whole
+pub fn totals(h: Header, trees: &[u32], locals: &[u64]) -> Whole
     requires { ⌜ h .frames ≤ 2 ^ 21 ⌝ }
-    ensures { λ r. ⌜ (r .free ≡ totalFree (config h (now (table .entry))) (now (trees .entry)) (now (locals .entry)))
-        × (r .trees ≡ freeTrees (config h (now (table .entry))) (now (trees .entry)) (now (locals .entry))) ⌝ }
+    ensures { λ r. ⌜ ((pairs : List ℕ) → r .free ≡ totalFree (config h pairs) (now (trees .entry)) (now (locals .entry)))
+        × ((pairs : List ℕ) → r .trees ≡ freeTrees (config h pairs) (now (trees .entry)) (now (locals .entry))) ⌝ }
 {
     let a = entries_whole(trees, headers::tree_count(h.frames));
     let b = locals_whole(locals, headers::local_count(h));

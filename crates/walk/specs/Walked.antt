@@ -7,7 +7,8 @@ use native.Mathlib.Omega.{arith}
 use borrow.Author.Tests.{eq-eqb, ne-eqb}
 use lib.Dec.{eqb}
 use Rattle.rules.specs.Base.{bitOf, ifte, Out, out}
-use Rattle.rules.specs.Words.{Config, entryAt}
+use Rattle.rules.specs.Words.{Config, config, entryAt}
+use Rattle.rules.specs.declared.Header.{Header}
 use Rattle.rules.specs.declared.Request.{Request}
 use Rattle.rules.specs.declared.Tree.{Tree}
 use Rattle.ways.specs.declared.Got.{Got}
@@ -63,17 +64,17 @@ module _ (c : Config) (q : Request) (w : Walk) (j m n start i last : ℕ) (xs : 
   pub walk-goes : ends g ≡ false → walk c q w j m n start i last xs (st ts ls bs looks tries) ≡ walk c q w j m n start (i + 1) last xs s
   walk-goes e = walk-tried ∙ sight-goes _ _ _ g e
 
--- from step i on, with this list and these looks, a walk over the trees came to step k, with that list and those looks: the rest of it is the same
-pub record Walked (c : Config) (q : Request) (w : Walk) (m n start i last : ℕ) (xs : List Candidate) (ts : List ℕ) (looks : ℕ)
+-- from step i on, with this list and these looks, a walk over the trees came to step k, with that list and those looks: with any header the rest of it is the same
+pub record Walked (pairs : List ℕ) (q : Request) (w : Walk) (m n start i last : ℕ) (xs : List Candidate) (ts : List ℕ) (looks : ℕ)
     (k : ℕ) (ys : List Candidate) (seen : ℕ) : Type 0 where
-  pub same : (j : ℕ) (ls bs : List ℕ) (tries : ℕ)
-      → walk c q w j m n start i last xs (st ts ls bs looks tries) ≡ walk c q w j m n start k last ys (st ts ls bs seen tries)
+  pub same : (h : Header) (j : ℕ) (ls bs : List ℕ) (tries : ℕ)
+      → walk (config h pairs) q w j m n start i last xs (st ts ls bs looks tries) ≡ walk (config h pairs) q w j m n start k last ys (st ts ls bs seen tries)
   pub low : i ≤ k
   pub high : k ≤ i + (last - i)
   pub most : seen ≤ looks + (k - i)
 
 -- a walk p went on from step i: as far as a tree that is tried at once (Match 255), or to its last step
-abbrev pub WalkedOn : Config → Request → Walk → Path → List ℕ → ℕ → List Candidate → ℕ → Stand → Type 0
-WalkedOn c q w p ts i xs looks r =
-    Walked c q w (p .m) (p .n) (p .start) i (p .last) xs ts looks (r .at) (listOf (p .m) (r .best)) (r .looks)
-    × (r .at < p .last → rate c q w (entryAt ts (place (p .n) (p .start) (r .at))) ≡ 258)
+abbrev pub WalkedOn : List ℕ → Request → Walk → Path → List ℕ → ℕ → List Candidate → ℕ → Stand → Type 0
+WalkedOn pairs q w p ts i xs looks r =
+    Walked pairs q w (p .m) (p .n) (p .start) i (p .last) xs ts looks (r .at) (listOf (p .m) (r .best)) (r .looks)
+    × ((h : Header) → r .at < p .last → rate (config h pairs) q w (entryAt ts (place (p .n) (p .start) (r .at))) ≡ 258)

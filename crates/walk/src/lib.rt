@@ -1,12 +1,10 @@
 // llfree.rs and trees.rs, search_best: a walk over the trees, as far as the next that is tried at once.
-use rules::Header;
 use rules::Request;
 use ways::Walk;
 ghost use mathlib.Core.Path.{_≡_};
 ghost use lib.Dec.{eqb};
-ghost use Prim.Native.Nat.{_^_, _<_, _≤_};
-ghost use Rattle.rules.specs.Words.{config};
-ghost use Rattle.get_fits.specs.Fits.{Fits};
+ghost use Prim.Native.Nat.{_-_, _^_, _<_, _≤_};
+ghost use Rattle.get_fits.specs.Room.{Room};
 ghost use Rattle.best.specs.List.{listOf};
 ghost use Rattle.walk.specs.Walked.{enlisted, WalkedOn};
 
@@ -39,7 +37,6 @@ fn offer(best: [u64; 8], m: usize, r: usize, free: usize, t: usize) -> [u64; 8]
 
 // A walk from step i on: as far as the next tree that is tried at once (Match 255), or to its last step.
 pub fn walk_on(
-    h: Header,
     table: &[u32; 64],
     trees: &[u32],
     q: Request,
@@ -49,8 +46,8 @@ pub fn walk_on(
     best: [u64; 8],
     looks: usize,
 ) -> Stand
-    requires { ⌜ Fits h q × ((p .m ≤ 8) × (((0 < p .n) × (p .n ≤ 1024)) × ((p .start < 2 ^ 44) × ((p .last ≤ 1024) × (looks < 2 ^ 31))))) ⌝ }
-    ensures { λ r. ⌜ WalkedOn (config h (now (table .entry))) q w p (now (trees .entry)) i (listOf (p .m) best) looks r ⌝ }
+    requires { ⌜ (q .order ≤ 11) × ((q .class < 8) × ((p .m ≤ 8) × (((0 < p .n) × (p .n ≤ 1024)) × ((p .start < 2 ^ 44) × ((p .last ≤ 1024) × Room (p .last - i) looks))))) ⌝ }
+    ensures { λ r. ⌜ WalkedOn (now (table .entry)) q w p (now (trees .entry)) i (listOf (p .m) best) looks r ⌝ }
 {
     let mut list = best;
     let mut seen = looks;
@@ -58,7 +55,7 @@ pub fn walk_on(
     while k < p.last {
         let t = spans::place(p.n, p.start, k);
         let e = trees::load(trees, t);
-        let r = ratings::rate(h, table, q, w, e);
+        let r = ratings::rate(table, q, w, e);
         if r == 258 {
             return Stand {
                 at: k,

@@ -7,25 +7,26 @@ use borrow.Author.Tests.{not-true, not-false}
 use Rattle.rules.specs.Base.{allBelow}
 use Rattle.policy_laws.specs.All.{all-none, all-more, all-fails, all-done}
 use Rattle.rules.specs.Words.{config}
+use Rattle.rules.specs.declared.Header.{Header}
 use Rattle.policy_laws.specs.Rows.{pairCovered, covers}
 use Rattle.accept_pairs.proofs.covers.Statement.{statement}
 use Rattle.accept_pairs.proofs.covers.Tie as tie
 
 abbrev Inv-loop : tie.InvT-loop
-Inv-loop h table o e f₀ f = (f ≤ 8) × (allBelow f (pairCovered (config h table) o e) ≡ true)
+Inv-loop table o e f₀ f = (f ≤ 8) × ((h : Header) → allBelow f (pairCovered (config h table) o e) ≡ true)
 
 abbrev μ-loop : tie.MeasureT-loop
-μ-loop h table o e f₀ f = 8 - f
+μ-loop table o e f₀ f = 8 - f
 
 loop-holds : tie.Need-loop-holds Inv-loop μ-loop
-loop-holds c = (search needs, all-none _)
+loop-holds c = (search needs, λ h. all-none _)
 
 pair-covered-requires : tie.Need-pair-covered-requires Inv-loop μ-loop
 pair-covered-requires c κs = search needs
 
 returns : tie.Need-returns Inv-loop μ-loop
 unfolding covers
-returns c = sym (all-fails 8 _ (c .before .before .before .loop .f) (c .before .before .loop-test .taken) (sym (c .before .pair-covered .ensures) ∙ not-true _ (c .if1 .taken)))
+returns c = λ h. sym (all-fails 8 _ (c .before .before .before .loop .f) (c .before .before .loop-test .taken) (sym (c .before .pair-covered .ensures h) ∙ not-true _ (c .if1 .taken)))
 
 add-f : tie.Need-add-f Inv-loop μ-loop
 add-f c = search needs
@@ -34,11 +35,11 @@ loop-less : tie.Need-loop-less Inv-loop μ-loop
 loop-less c = search needs
 
 loop-again : tie.Need-loop-again Inv-loop μ-loop
-loop-again c = (search needs, all-more _ _ (c .before .before .before .loop .inv .1) (sym (c .before .pair-covered .ensures) ∙ not-false _ (c .if1 .left)))
+loop-again c = (search needs, λ h. all-more _ _ (c .before .before .before .loop .inv .1 h) (sym (c .before .pair-covered .ensures h) ∙ not-false _ (c .if1 .left)))
 
 returns-2 : tie.Need-returns-2 Inv-loop μ-loop
 unfolding covers
-returns-2 c = sym (all-done 8 (c .before .loop .f) _ (c .before .loop .inv .0) (c .loop-test .left) (c .before .loop .inv .1))
+returns-2 c = λ h. sym (all-done 8 (c .before .loop .f) _ (c .before .loop .inv .0) (c .loop-test .left) (c .before .loop .inv .1 h))
 
 pub covers-spec : {M : Type 1} → statement M
 covers-spec =

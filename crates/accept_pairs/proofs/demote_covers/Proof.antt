@@ -14,17 +14,17 @@ covers-requires c κs = search needs
 returns : tie.Need-returns
 unfolding demoteCovers
 returns c =
-    rw (
-      ← c .before .before .kind-at .ensures,
+    λ h. rw (
+      ← c .before .before .kind-at .ensures h,
       eq-eqb _ _ (c .before .if1 .taken),
-      ← c .covers .ensures,
+      ← c .covers .ensures h,
     )
 
 returns-2 : tie.Need-returns-2
 unfolding demoteCovers
 returns-2 c =
-    rw (
-      ← c .before .kind-at .ensures,
+    λ h. rw (
+      ← c .before .kind-at .ensures h,
       ne-eqb _ _ (c .if1 .left),
     )
 

@@ -19,20 +19,20 @@ returns : tie.Need-returns
 unfolding leadsBack good
 returns c =
     rw (
-      ← c .before .before .before .before .kind-at .ensures,
+      ← c .before .before .before .before .kind-at .ensures _,
       le-leb _ _ (c .before .before .before .if1 .taken),
-      ← c .before .before .kind-at2 .ensures,
+      ← c .before .before .kind-at2 .ensures _,
       lt-ltb _ _ (c .before .if2 .taken),
-      ← c .kind-at3 .ensures,
+      ← c .kind-at3 .ensures _,
     )
 
 returns-2 : tie.Need-returns-2
 unfolding leadsBack good
 returns-2 c =
     rw (
-      ← c .before .before .before .kind-at .ensures,
+      ← c .before .before .before .kind-at .ensures _,
       le-leb _ _ (c .before .before .if1 .taken),
-      ← c .before .kind-at2 .ensures,
+      ← c .before .kind-at2 .ensures _,
       le-ltb _ _ (c .if2 .left),
     )
 
@@ -40,7 +40,7 @@ returns-3 : tie.Need-returns-3
 unfolding leadsBack good
 returns-3 c =
     rw (
-      ← c .before .kind-at .ensures,
+      ← c .before .kind-at .ensures _,
       lt-leb _ _ (c .if1 .left),
     )
 

@@ -14,17 +14,17 @@ kind-at-requires-2 c κs = search needs
 returns : tie.Need-returns
 unfolding good
 returns c =
-    rw (
-      ← c .before .before .kind-at .ensures,
+    λ h. rw (
+      ← c .before .before .kind-at .ensures h,
       le-leb _ _ (c .before .if1 .taken),
-      ← c .kind-at2 .ensures,
+      ← c .kind-at2 .ensures h,
     )
 
 returns-2 : tie.Need-returns-2
 unfolding good
 returns-2 c =
-    rw (
-      ← c .before .kind-at .ensures,
+    λ h. rw (
+      ← c .before .kind-at .ensures h,
       lt-leb _ _ (c .if1 .left),
     )
 

@@ -27,12 +27,12 @@ returns c =
     rw (
       ← (c .before .before .before .before .before .before .before .configured-in .ensures ∙ ap (λ p. configured p (c .before .before .before .before .before .before .before .before .args .e)) (c .before .before .before .before .before .before .before .before .pre .0)),
       c .before .before .before .before .before .before .if1 .taken,
-      ← c .before .before .before .before .before .pair-at .ensures,
+      ← c .before .before .before .before .before .pair-at .ensures _,
       ← c .before .before .before .before .formed .ensures,
       c .before .before .before .if2 .taken,
       ← c .before .before .leads-back .ensures,
       c .before .if3 .taken,
-      ← c .demote-covers .ensures,
+      ← c .demote-covers .ensures _,
     )
 
 returns-2 : tie.Need-returns-2
@@ -41,7 +41,7 @@ returns-2 c =
     rw (
       ← (c .before .before .before .before .before .before .configured-in .ensures ∙ ap (λ p. configured p (c .before .before .before .before .before .before .before .args .e)) (c .before .before .before .before .before .before .before .pre .0)),
       c .before .before .before .before .before .if1 .taken,
-      ← c .before .before .before .before .pair-at .ensures,
+      ← c .before .before .before .before .pair-at .ensures _,
       ← c .before .before .before .formed .ensures,
       c .before .before .if2 .taken,
       ← c .before .leads-back .ensures,
@@ -54,7 +54,7 @@ returns-3 c =
     rw (
       ← (c .before .before .before .before .configured-in .ensures ∙ ap (λ p. configured p (c .before .before .before .before .before .args .e)) (c .before .before .before .before .before .pre .0)),
       c .before .before .before .if1 .taken,
-      ← c .before .before .pair-at .ensures,
+      ← c .before .before .pair-at .ensures _,
       ← c .before .formed .ensures,
       c .if2 .left,
     )
@@ -68,7 +68,7 @@ returns-4 c =
     rw (
       ← (c .before .before .configured-in .ensures ∙ ap (λ p. configured p (c .before .before .before .args .e)) (c .before .before .before .pre .0)),
       c .before .if1 .left,
-      ← c .pair-at2 .ensures,
+      ← c .pair-at2 .ensures _,
     )
 
 pub cell-accepted-spec : {M : Type 1} → statement M

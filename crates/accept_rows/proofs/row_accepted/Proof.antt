@@ -23,7 +23,7 @@ returns c =
     rw (
       ← (c .before .before .before .before .configured-in .ensures ∙ ap (λ p. configured p (c .before .before .before .before .before .args .o)) (c .before .before .before .before .before .pre .0)),
       c .before .before .before .if1 .taken,
-      ← c .before .before .kind-at .ensures,
+      ← c .before .before .kind-at .ensures _,
       le-leb _ _ (c .before .if2 .taken),
       ← c .cells-accepted .ensures,
     )
@@ -34,7 +34,7 @@ returns-2 c =
     rw (
       ← (c .before .before .before .configured-in .ensures ∙ ap (λ p. configured p (c .before .before .before .before .args .o)) (c .before .before .before .before .pre .0)),
       c .before .before .if1 .taken,
-      ← c .before .kind-at .ensures,
+      ← c .before .kind-at .ensures _,
       lt-leb _ _ (c .if2 .left),
     )
 
@@ -47,7 +47,7 @@ returns-3 c =
     rw (
       ← (c .before .before .configured-in .ensures ∙ ap (λ p. configured p (c .before .before .before .args .o)) (c .before .before .before .pre .0)),
       c .before .if1 .left,
-      ← c .row-empty .ensures,
+      ← c .row-empty .ensures _,
     )
 
 pub row-accepted-spec : {M : Type 1} → statement M

@@ -11,7 +11,7 @@ use Rattle.checks.proofs.check.Tie as tie
 returns : tie.Need-returns
 unfolding outcomeOf numberOf refusal ifte
 returns c =
-    rw (lt-ltb _ _ (c .if1 .taken))
+    λ pairs. rw (lt-ltb _ _ (c .if1 .taken))
 
 size-requires : tie.Need-size-requires
 size-requires c κs = search needs
@@ -19,7 +19,7 @@ size-requires c κs = search needs
 returns-2 : tie.Need-returns-2
 unfolding outcomeOf numberOf refusal ifte
 returns-2 c =
-    rw (
+    λ pairs. rw (
       le-ltb _ _ (c .before .before .before .if1 .left),
       ← c .before .before .size .ensures .0,
       sum-over _ (c .before .before .before .before .before .args .frame) _ (c .if2 .taken),
@@ -28,7 +28,7 @@ returns-2 c =
 returns-3 : tie.Need-returns-3
 unfolding outcomeOf numberOf refusal ifte
 returns-3 c =
-    rw (
+    λ pairs. rw (
       le-ltb _ _ (c .before .before .before .before .before .if1 .left),
       ← c .before .before .before .before .size .ensures .0,
       sum-past _ _ _ (c .before .before .if2 .left) (c .if3 .taken),
@@ -43,18 +43,18 @@ check-class-requires c κs = search needs
 returns-4 : tie.Need-returns-4
 unfolding outcomeOf numberOf refusal ifte
 returns-4 c =
-    rw (
+    λ pairs. rw (
       le-ltb _ _ (c .before .before .before .before .before .before .before .if1 .left),
       ← c .before .before .before .before .before .before .size .ensures .0,
       sum-within _ _ _ (c .before .before .before .before .if2 .left) (c .before .before .if3 .left),
       eq-eqb _ _ (c .before .if4 .taken),
-      ← c .check-class .ensures,
+      ← c .check-class .ensures pairs,
     )
 
 returns-5 : tie.Need-returns-5
 unfolding outcomeOf numberOf refusal ifte
 returns-5 c =
-    rw (
+    λ pairs. rw (
       le-ltb _ _ (c .before .before .before .before .before .before .if1 .left),
       ← c .before .before .before .before .before .size .ensures .0,
       sum-within _ _ _ (c .before .before .before .if2 .left) (c .before .if3 .left),

@@ -8,7 +8,7 @@ use Rattle.checks.proofs.check_class.Tie as tie
 returns : tie.Need-returns
 unfolding outcomeOf numberOf refuseClass
 returns c =
-    rw (lt-ltb _ _ (c .if1 .taken))
+    λ pairs. rw (lt-ltb _ _ (c .if1 .taken))
 
 is-configured-requires : tie.Need-is-configured-requires
 is-configured-requires c κs = search needs
@@ -19,17 +19,17 @@ check-local-requires c κs = search needs
 returns-2 : tie.Need-returns-2
 unfolding outcomeOf numberOf refuseClass
 returns-2 c =
-    rw (
+    λ pairs. rw (
       le-ltb _ _ (c .before .before .before .if1 .left),
       ← c .before .before .is-configured .ensures,
       c .before .if2 .taken,
-      ← c .check-local .ensures,
+      ← c .check-local .ensures pairs,
     )
 
 returns-3 : tie.Need-returns-3
 unfolding outcomeOf numberOf refuseClass
 returns-3 c =
-    rw (
+    λ pairs. rw (
       le-ltb _ _ (c .before .before .if1 .left),
       ← c .before .is-configured .ensures,
       c .if2 .left,

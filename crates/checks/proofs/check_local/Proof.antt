@@ -17,7 +17,7 @@ locals-of-requires c κs = search needs
 returns : tie.Need-returns
 unfolding outcomeOf numberOf refuseLocal
 returns c =
-    rw (
+    λ pairs. rw (
       c .before .before .before .local .given .1,
       ← c .before .locals-of .ensures .0,
       lt-ltb _ _ (c .if1 .taken),
@@ -26,12 +26,12 @@ returns c =
 returns-2 : tie.Need-returns-2
 unfolding outcomeOf numberOf refuseLocal
 returns-2 c =
-    rw (c .enum-told .given .1)
+    λ pairs. rw (c .enum-told .given .1)
 
 returns-3 : tie.Need-returns-3
 unfolding outcomeOf numberOf refuseLocal
 returns-3 c =
-    rw (
+    λ pairs. rw (
       c .before .before .before .local .given .1,
       ← c .before .locals-of .ensures .0,
       le-ltb _ _ (c .if1 .left),

@@ -2,7 +2,7 @@
 use mathlib.Core.Path.{_∙_}
 use native.Mathlib.Omega.{arith}
 use borrow.Author.Needs.{needs}
-use Rattle.demotes.specs.Demoted.{nobody, leaves, few, absent}
+use Rattle.demotes.specs.Demoted.{nobody, leaves}
 use Rattle.demotes.proofs.demote_local.Statement.{statement}
 use Rattle.demotes.proofs.demote_local.Tie as tie
 
@@ -38,35 +38,20 @@ returns c = (
   omega (arith, c .missed .ensures .1),
 )
 
-take-requires : tie.Need-take-requires
-take-requires c κs = search needs
-
-enum-told-2 : tie.Need-enum-told-2
-enum-told-2 c = search needs
+pay-requires : tie.Need-pay-requires
+pay-requires c κs = search needs
 
 clear-requires : tie.Need-clear-requires
 clear-requires c κs = search needs
 
 demote-to-requires : tie.Need-demote-to-requires
-demote-to-requires c κs = (c .before .before .before .before .before .before .before .before .before .before .before .before .before .before .before .before .before .before .before .before .before .before .before .pre .0, (omega (arith, c .before .before .before .before .before .clear .ensures .1), c .before .before .before .before .before .before .before .before .before .before .before .before .before .before .before .before .before .before .before .before .before .before .before .pre .1))
-
-enum-told-3 : tie.Need-enum-told-3
-enum-told-3 c = search needs
-
-missed-requires-2 : tie.Need-missed-requires-2
-missed-requires-2 c κs = search needs
-
-enum-told-4 : tie.Need-enum-told-4
-enum-told-4 c = search needs
-
-missed-requires-3 : tie.Need-missed-requires-3
-missed-requires-3 c κs = search needs
+demote-to-requires c κs = (c .before .before .before .before .before .before .before .before .before .before .before .before .before .before .before .before .before .before .before .before .before .pre .0, (omega (arith, c .before .before .before .before .before .clear .ensures .1), c .before .before .before .before .before .before .before .before .before .before .before .before .before .before .before .before .before .before .before .before .before .pre .1))
 
 same-length-2 : tie.Need-same-length-2
 same-length-2 c = c .before .before .before .before .before .before .demote-to .kept .1 .1 .0
 
 same-length-3 : tie.Need-same-length-3
-same-length-3 c = c .before .before .before .before .before .before .demote-to .kept .1 .1 .1 .0 ∙ c .before .before .before .before .before .before .before .before .before .before .before .before .clear .kept .0 ∙ c .before .before .before .before .before .before .before .before .before .before .before .before .before .before .before .before .before .before .take .kept .0
+same-length-3 c = c .before .before .before .before .before .before .demote-to .kept .1 .1 .1 .0 ∙ c .before .before .before .before .before .before .before .before .before .before .before .before .clear .kept .0 ∙ c .before .before .before .before .before .before .before .before .before .before .before .before .before .before .before .before .pay .kept .0
 
 same-length-4 : tie.Need-same-length-4
 same-length-4 c = c .before .before .before .before .before .before .demote-to .kept .1 .1 .1 .1 .0
@@ -74,47 +59,14 @@ same-length-4 c = c .before .before .before .before .before .before .demote-to .
 returns-2 : tie.Need-returns-2
 returns-2 c = (
   leaves _ _ _ _
-      (c .before .before .before .before .before .before .before .before .before .before .before .before .before .before .before .before .before .before .before .before .before .before .before .before .before .before .index-of .ensures)
-      (c .before .before .before .before .before .before .before .before .before .before .before .before .before .before .before .before .before .before .before .before .before .before .before .before .before .size .ensures .0)
-      (c .before .before .before .before .before .before .before .before .before .before .before .before .before .before .before .before .before .before .before .before .before .before .before .demote-any .ensures)
-      (c .before .before .before .before .before .before .before .before .before .before .before .before .before .before .before .before .before .before .before .before .before .payer .given .1)
-      (c .before .before .before .before .before .before .before .before .before .before .before .before .before .before .before .before .before .before .take .ensures)
-      (c .before .before .before .before .before .before .before .before .before .before .before .before .before .before .enum-told2 .given .1)
+      (c .before .before .before .before .before .before .before .before .before .before .before .before .before .before .before .before .before .before .before .before .before .before .before .before .index-of .ensures)
+      (c .before .before .before .before .before .before .before .before .before .before .before .before .before .before .before .before .before .before .before .before .before .before .before .size .ensures .0)
+      (c .before .before .before .before .before .before .before .before .before .before .before .before .before .before .before .before .before .before .before .before .before .demote-any .ensures)
+      (c .before .before .before .before .before .before .before .before .before .before .before .before .before .before .before .before .before .before .before .payer .given .1)
+      (c .before .before .before .before .before .before .before .before .before .before .before .before .before .before .before .before .pay .ensures _)
       (c .before .before .before .before .before .before .before .before .before .before .before .before .clear .ensures .0)
       (c .before .before .before .before .before .before .demote-to .ensures .0),
   c .before .before .before .before .before .before .demote-to .ensures .1,
-)
-
-same-length-5 : tie.Need-same-length-5
-same-length-5 c = c .before .before .before .before .before .take .kept .0
-
-returns-3 : tie.Need-returns-3
-returns-3 c = (
-  few _ _ _ _
-      (c .before .before .before .before .before .before .before .before .before .before .before .before .before .index-of .ensures)
-      (c .before .before .before .before .before .before .before .before .before .before .before .before .size .ensures .0)
-      (c .before .before .before .before .before .before .before .before .before .before .demote-any .ensures)
-      (c .before .before .before .before .before .before .before .before .payer .given .1)
-      (c .before .before .before .before .before .take .ensures)
-      (c .before .enum-told3 .given .1)
-      (c .missed2 .ensures .0 _ _ _),
-  omega (arith, c .missed2 .ensures .1),
-)
-
-same-length-6 : tie.Need-same-length-6
-same-length-6 c = c .before .before .before .before .before .take .kept .0
-
-returns-4 : tie.Need-returns-4
-returns-4 c = (
-  absent _ _ _ _
-      (c .before .before .before .before .before .before .before .before .before .before .before .before .before .index-of .ensures)
-      (c .before .before .before .before .before .before .before .before .before .before .before .before .size .ensures .0)
-      (c .before .before .before .before .before .before .before .before .before .before .demote-any .ensures)
-      (c .before .before .before .before .before .before .before .before .payer .given .1)
-      (c .before .before .before .before .before .take .ensures)
-      (c .before .enum-told4 .given .1)
-      (c .missed3 .ensures .0 _ _ _),
-  omega (arith, c .missed3 .ensures .1),
 )
 
 pub demote-local-spec : {M : Type 1} → statement M
@@ -129,19 +81,10 @@ demote-local-spec =
     missed-requires
     same-length
     returns
-    take-requires
-    enum-told-2
+    pay-requires
     clear-requires
     demote-to-requires
-    enum-told-3
-    missed-requires-2
-    enum-told-4
-    missed-requires-3
     same-length-2
     same-length-3
     same-length-4
-    returns-2
-    same-length-5
-    returns-3
-    same-length-6
-    returns-4)
+    returns-2)

@@ -17,7 +17,7 @@ returns : tie.Need-returns
 unfolding putOf
 returns c =
     rw (
-      ← c .before .ask .ensures,
+      ← c .before .ask .ensures _,
       ← c .class-after .ensures,
     )
 

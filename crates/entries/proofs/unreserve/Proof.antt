@@ -30,7 +30,7 @@ unfolding unreserveOf unreserveKind
 returns c =
     rw (
       c .before .before .before .if1 .taken,
-      ← c .before .before .ask .ensures,
+      ← c .before .before .ask .ensures _,
       c .enum-told .given .1,
     )
 
@@ -39,7 +39,7 @@ unfolding unreserveOf unreserveKind
 returns-2 c =
     rw (
       c .before .before .before .if1 .taken,
-      ← c .before .before .ask .ensures,
+      ← c .before .before .ask .ensures _,
       c .enum-told2 .given .1,
     )
 
@@ -48,7 +48,7 @@ unfolding unreserveOf unreserveKind
 returns-3 c =
     rw (
       c .before .before .before .before .if1 .taken,
-      ← c .before .before .before .ask .ensures,
+      ← c .before .before .before .ask .ensures _,
       c .before .enum-told3 .given .1,
       ← c .put .ensures,
     )
@@ -58,7 +58,7 @@ unfolding unreserveOf unreserveKind
 returns-4 c =
     rw (
       c .before .before .before .before .if1 .taken,
-      ← c .before .before .before .ask .ensures,
+      ← c .before .before .before .ask .ensures _,
       c .before .enum-told4 .given .1,
       ← c .put2 .ensures,
     )

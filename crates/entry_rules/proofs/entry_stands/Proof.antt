@@ -16,10 +16,10 @@ configured-in-requires c κs = search needs
 returns : tie.Need-returns
 unfolding entryStands
 returns c =
-    rw (
+    λ h pairs places. rw (
       ← c .before .before .before .before .before .load .ensures .0,
       le-leb _ _ (c .before .before .before .if1 .taken),
-      ← (c .before .before .configured-in .ensures ∙ ap (λ p. configured p (c .before .before .before .before .before .load .result .class)) (c .before .before .before .before .before .before .before .before .pre .0)),
+      ← (c .before .before .configured-in .ensures ∙ ap (λ p. configured p (c .before .before .before .before .before .load .result .class)) places),
       c .before .if2 .taken,
       c .if3 .taken,
     )
@@ -30,10 +30,10 @@ clear-in-requires c κs = search needs
 returns-2 : tie.Need-returns-2
 unfolding entryStands
 returns-2 c =
-    rw (
+    λ h pairs places. rw (
       ← c .before .before .before .before .before .before .before .load .ensures .0,
       le-leb _ _ (c .before .before .before .before .before .if1 .taken),
-      ← (c .before .before .before .before .configured-in .ensures ∙ ap (λ p. configured p (c .before .before .before .before .before .before .before .load .result .class)) (c .before .before .before .before .before .before .before .before .before .before .pre .0)),
+      ← (c .before .before .before .before .configured-in .ensures ∙ ap (λ p. configured p (c .before .before .before .before .before .before .before .load .result .class)) places),
       c .before .before .before .if2 .taken,
       c .before .before .if3 .left,
       ← c .before .clear-in .ensures,
@@ -42,17 +42,17 @@ returns-2 c =
 returns-3 : tie.Need-returns-3
 unfolding entryStands
 returns-3 c =
-    rw (
+    λ h pairs places. rw (
       ← c .before .before .before .before .load .ensures .0,
       le-leb _ _ (c .before .before .if1 .taken),
-      ← (c .before .configured-in .ensures ∙ ap (λ p. configured p (c .before .before .before .before .load .result .class)) (c .before .before .before .before .before .before .before .pre .0)),
+      ← (c .before .configured-in .ensures ∙ ap (λ p. configured p (c .before .before .before .before .load .result .class)) places),
       c .if2 .left,
     )
 
 returns-4 : tie.Need-returns-4
 unfolding entryStands
 returns-4 c =
-    rw (
+    λ h pairs places. rw (
       ← c .before .before .load .ensures .0,
       lt-leb _ _ (c .if1 .left),
     )

@@ -12,7 +12,7 @@ may-yield-requires : tie.Need-may-yield-requires
 may-yield-requires c κs = search needs
 
 returns : tie.Need-returns
-returns c = steal-refused _ _ _ _ (c .before .may-yield .ensures) (not-true (c .before .may-yield .result) (c .if1 .taken))
+returns c = λ h. steal-refused _ _ _ _ (c .before .may-yield .ensures) (not-true (c .before .may-yield .result) (c .if1 .taken))
 
 ask-requires : tie.Need-ask-requires
 ask-requires c κs = search needs
@@ -23,64 +23,64 @@ enum-told c = search needs
 enum-told-2 : tie.Need-enum-told-2
 enum-told-2 c = search needs
 
-sub-t10 : tie.Need-sub-t10
-sub-t10 c =
+sub-t9 : tie.Need-sub-t9
+sub-t9 c =
     let enough = yields-enough _ _ (c .before .before .before .before .before .may-yield .ensures) (not-false (c .before .before .before .before .before .may-yield .result) (c .before .before .before .before .if1 .left)) in
     omega arith
 
 enum-told-3 : tie.Need-enum-told-3
 enum-told-3 c = search needs
 
-sub-t12 : tie.Need-sub-t12
-sub-t12 c =
+sub-t11 : tie.Need-sub-t11
+sub-t11 c =
     let enough = yields-enough _ _ (c .before .before .before .before .before .may-yield .ensures) (not-false (c .before .before .before .before .before .may-yield .result) (c .before .before .before .before .if1 .left)) in
     omega arith
 
 enum-told-4 : tie.Need-enum-told-4
 enum-told-4 c = search needs
 
-sub-t14 : tie.Need-sub-t14
-sub-t14 c =
+sub-t13 : tie.Need-sub-t13
+sub-t13 c =
     let enough = yields-enough _ _ (c .before .before .before .before .before .may-yield .ensures) (not-false (c .before .before .before .before .before .may-yield .result) (c .before .before .before .before .if1 .left)) in
     omega arith
 
 returns-2 : tie.Need-returns-2
 unfolding stealKind
 returns-2 c =
-    steal-by _ _ _ _
+    λ h. steal-by _ _ _ _
     (c .before .before .before .before .may-yield .ensures)
     (not-false (c .before .before .before .before .may-yield .result) (c .before .before .before .if1 .left))
-    (c .before .before .ask .ensures)
+    (c .before .before .ask .ensures h)
     (c .enum-told .given .1)
     refl
 
 returns-3 : tie.Need-returns-3
 unfolding stealKind
 returns-3 c =
-    steal-by _ _ _ _
+    λ h. steal-by _ _ _ _
     (c .before .before .before .before .before .may-yield .ensures)
     (not-false (c .before .before .before .before .before .may-yield .result) (c .before .before .before .before .if1 .left))
-    (c .before .before .before .ask .ensures)
+    (c .before .before .before .ask .ensures h)
     (c .before .enum-told2 .given .1)
     refl
 
 returns-4 : tie.Need-returns-4
 unfolding stealKind
 returns-4 c =
-    steal-by _ _ _ _
+    λ h. steal-by _ _ _ _
     (c .before .before .before .before .before .may-yield .ensures)
     (not-false (c .before .before .before .before .before .may-yield .result) (c .before .before .before .before .if1 .left))
-    (c .before .before .before .ask .ensures)
+    (c .before .before .before .ask .ensures h)
     (c .before .enum-told3 .given .1)
     refl
 
 returns-5 : tie.Need-returns-5
 unfolding stealKind
 returns-5 c =
-    steal-by _ _ _ _
+    λ h. steal-by _ _ _ _
     (c .before .before .before .before .before .may-yield .ensures)
     (not-false (c .before .before .before .before .before .may-yield .result) (c .before .before .before .before .if1 .left))
-    (c .before .before .before .ask .ensures)
+    (c .before .before .before .ask .ensures h)
     (c .before .enum-told4 .given .1)
     refl
 
@@ -93,11 +93,11 @@ steal-spec =
     ask-requires
     enum-told
     enum-told-2
-    sub-t10
+    sub-t9
     enum-told-3
-    sub-t12
+    sub-t11
     enum-told-4
-    sub-t14
+    sub-t13
     returns-2
     returns-3
     returns-4

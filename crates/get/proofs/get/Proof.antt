@@ -23,7 +23,7 @@ enum-told c = search needs
 routes-requires : tie.Need-routes-requires
 routes-requires c κs =
     checked-fits _ _ _ _ (standing-accepted _ _ _ _ (sym (c .before .before .before .before .before .before .before .before .stands .ensures) ∙ c .before .before .before .before .before .before .before .if1 .taken))
-    (done-checked _ _ (c .before .before .before .before .before .check .ensures) (c .before .before .before .enum-told .given .1))
+    (done-checked _ _ (c .before .before .before .before .before .check .ensures _) (c .before .before .before .enum-told .given .1))
 
 reply-requires : tie.Need-reply-requires
 reply-requires c κs = search needs
@@ -53,7 +53,7 @@ returns c =
     (tests-passed _ _ _ _ _
     (c .before .before .before .before .before .before .before .before .before .before .before .before .before .before .before .before .stands .ensures)
     (c .before .before .before .before .before .before .before .before .before .before .before .before .before .before .before .if1 .taken)
-    (c .before .before .before .before .before .before .before .before .before .before .before .before .before .check .ensures)
+    (c .before .before .before .before .before .before .before .before .before .before .before .before .before .check .ensures _)
     (c .before .before .before .before .before .before .before .before .before .before .before .enum-told .given .1)
     (c .reply .ensures _ _ _ ∙ ap close (c .before .before .before .before .before .before .before .routes .ensures)))
 
@@ -73,7 +73,7 @@ returns-2 c =
     (argument-refused _ _ _ _ _
     (c .before .before .before .before .before .before .before .stands .ensures)
     (c .before .before .before .before .before .before .if1 .taken)
-    (c .before .before .before .before .check .ensures)
+    (c .before .before .before .before .check .ensures _)
     (c .before .before .x .given .1))
 
 same-length-7 : tie.Need-same-length-7

@@ -27,7 +27,7 @@ returns c =
     (c .before .before .before .before .before .before .before .if1 .taken)
     (c .before .before .before .before .before .before .load .ensures .0)
     (c .before .before .before .before .before .if2 .taken)
-    (c .before .before .before .before .kind-at .ensures)
+    (c .before .before .before .before .kind-at .ensures _)
     (c .before .before .before .if3 .taken)
     refl
     (c .clear-in .ensures)
@@ -39,7 +39,7 @@ returns-2 c =
     (c .before .before .before .before .if1 .taken)
     (c .before .before .before .load .ensures .0)
     (c .before .before .if2 .taken)
-    (c .before .kind-at .ensures)
+    (c .before .kind-at .ensures _)
     (c .if3 .left)
 
 returns-3 : tie.Need-returns-3

@@ -20,7 +20,7 @@ mul-result c = omega arith
 returns : tie.Need-returns
 unfolding lengthsExact
 returns c =
-    rw (
+    λ pairs. rw (
       ← c .before .before .before .tree-count .ensures .0,
       eq-eqb _ _ (c .before .before .if1 .taken),
       ← c .before .local-count .ensures .0,
@@ -30,7 +30,7 @@ returns c =
 returns-2 : tie.Need-returns-2
 unfolding lengthsExact
 returns-2 c =
-    rw (
+    λ pairs. rw (
       ← c .before .before .before .tree-count .ensures .0,
       eq-eqb _ _ (c .before .before .if1 .taken),
       ← c .before .local-count .ensures .0,
@@ -40,7 +40,7 @@ returns-2 c =
 returns-3 : tie.Need-returns-3
 unfolding lengthsExact
 returns-3 c =
-    rw (
+    λ pairs. rw (
       ← c .before .tree-count .ensures .0,
       ne-eqb _ _ (c .if1 .left),
     )

@@ -76,7 +76,7 @@ access-requires : tie.Need-access-requires Inv-loop μ-loop
 access-requires c κs =
     let l = c .before .before .before .before .before .loop .inv in
     let p = c .before .before .before .before .before .before .before .before .before .pre in
-    (p .0, (search needs, (omega (arith, l .seen-most, p .1), omega (arith, l .asked-most, l .most, p .1))))
+    (p .0, (search needs, omega (arith, l .asked-most, c .before .before .before .before .loop-test .taken, p .1)))
 
 ends-requires : tie.Need-ends-requires Inv-loop μ-loop
 ends-requires c κs = search needs

@@ -1,5 +1,5 @@
 -- `others::steal_local` meets its contract. Assumes nothing.
-use Rattle.others.specs.Paid.{pay-nobody, pay-row, pay-few, pay-absent}
+use Rattle.others.specs.Paid.{pay-nobody, pay-row}
 use mathlib.Core.Path.{refl}
 use native.Mathlib.Omega.{arith}
 use borrow.Author.Needs.{needs}
@@ -38,32 +38,17 @@ returns c = (
   omega (arith, c .missed .ensures .1),
 )
 
-take-requires : tie.Need-take-requires
-take-requires c κs = search needs
-
-enum-known-row : tie.Need-enum-known-row
-enum-known-row c = search needs
+pay-requires : tie.Need-pay-requires
+pay-requires c κs = search needs
 
 ask-lower-requires : tie.Need-ask-lower-requires
 ask-lower-requires c κs = search needs
-
-enum-told-2 : tie.Need-enum-told-2
-enum-told-2 c = search needs
-
-missed-requires-2 : tie.Need-missed-requires-2
-missed-requires-2 c κs = search needs
-
-enum-told-3 : tie.Need-enum-told-3
-enum-told-3 c = search needs
-
-missed-requires-3 : tie.Need-missed-requires-3
-missed-requires-3 c κs = search needs
 
 same-length-2 : tie.Need-same-length-2
 same-length-2 c = c .before .before .before .before .ask-lower .kept .1 .1 .0
 
 same-length-3 : tie.Need-same-length-3
-same-length-3 c = c .before .before .before .before .before .before .before .before .before .before .before .before .take .kept .0
+same-length-3 c = c .before .before .before .before .before .before .before .before .before .pay .kept .0
 
 same-length-4 : tie.Need-same-length-4
 same-length-4 c = c .before .before .before .before .ask-lower .kept .1 .1 .1 .0
@@ -71,47 +56,14 @@ same-length-4 c = c .before .before .before .before .ask-lower .kept .1 .1 .1 .0
 returns-2 : tie.Need-returns-2
 returns-2 c = (
   pay-row _ _ _ _
-      (c .before .before .before .before .before .before .before .before .before .before .before .before .before .before .before .before .before .before .before .before .index-of .ensures)
-      (c .before .before .before .before .before .before .before .before .before .before .before .before .before .before .before .before .before .before .before .size .ensures .0)
-      (c .before .before .before .before .before .before .before .before .before .before .before .before .before .before .before .before .before .steal-any .ensures)
-      (c .before .before .before .before .before .before .before .before .before .before .before .before .before .before .before .payer .given .1)
-      (c .before .before .before .before .before .before .before .before .before .before .before .before .take .ensures)
-      (c .before .before .before .before .before .before .before .before .row .given .1)
+      (c .before .before .before .before .before .before .before .before .before .before .before .before .before .before .before .before .before .index-of .ensures)
+      (c .before .before .before .before .before .before .before .before .before .before .before .before .before .before .before .before .size .ensures .0)
+      (c .before .before .before .before .before .before .before .before .before .before .before .before .before .before .steal-any .ensures)
+      (c .before .before .before .before .before .before .before .before .before .before .before .before .payer .given .1)
+      (c .before .before .before .before .before .before .before .before .before .pay .ensures _)
       (c .before .before .before .before .ask-lower .ensures .0 _)
       refl,
   c .before .before .before .before .ask-lower .ensures .1,
-)
-
-same-length-5 : tie.Need-same-length-5
-same-length-5 c = c .before .before .before .before .before .take .kept .0
-
-returns-3 : tie.Need-returns-3
-returns-3 c = (
-  pay-few _ _ _ _
-      (c .before .before .before .before .before .before .before .before .before .before .before .before .before .index-of .ensures)
-      (c .before .before .before .before .before .before .before .before .before .before .before .before .size .ensures .0)
-      (c .before .before .before .before .before .before .before .before .before .before .steal-any .ensures)
-      (c .before .before .before .before .before .before .before .before .payer .given .1)
-      (c .before .before .before .before .before .take .ensures)
-      (c .before .enum-told2 .given .1)
-      (c .missed2 .ensures .0 _ _ _),
-  omega (arith, c .missed2 .ensures .1),
-)
-
-same-length-6 : tie.Need-same-length-6
-same-length-6 c = c .before .before .before .before .before .take .kept .0
-
-returns-4 : tie.Need-returns-4
-returns-4 c = (
-  pay-absent _ _ _ _
-      (c .before .before .before .before .before .before .before .before .before .before .before .before .before .index-of .ensures)
-      (c .before .before .before .before .before .before .before .before .before .before .before .before .size .ensures .0)
-      (c .before .before .before .before .before .before .before .before .before .before .steal-any .ensures)
-      (c .before .before .before .before .before .before .before .before .payer .given .1)
-      (c .before .before .before .before .before .take .ensures)
-      (c .before .enum-told3 .given .1)
-      (c .missed3 .ensures .0 _ _ _),
-  omega (arith, c .missed3 .ensures .1),
 )
 
 pub steal-local-spec : {M : Type 1} → statement M
@@ -126,18 +78,9 @@ steal-local-spec =
     missed-requires
     same-length
     returns
-    take-requires
-    enum-known-row
+    pay-requires
     ask-lower-requires
-    enum-told-2
-    missed-requires-2
-    enum-told-3
-    missed-requires-3
     same-length-2
     same-length-3
     same-length-4
-    returns-2
-    same-length-5
-    returns-3
-    same-length-6
-    returns-4)
+    returns-2)

@@ -23,7 +23,7 @@ returns c =
     rw (
       ← c .before .before .before .before .before .is-configured .ensures,
       c .before .before .before .before .if1 .taken,
-      ← c .before .before .before .ask .ensures,
+      ← c .before .before .before .ask .ensures _,
       ← c .before .before .may .ensures,
       c .before .if2 .taken,
       ← c .first-local .ensures,
@@ -35,7 +35,7 @@ returns-2 c =
     rw (
       ← c .before .before .before .before .is-configured .ensures,
       c .before .before .before .if1 .taken,
-      ← c .before .before .ask .ensures,
+      ← c .before .before .ask .ensures _,
       ← c .before .may .ensures,
       c .if2 .left,
     )

@@ -13,7 +13,7 @@ policy-of-requires c κs = search needs
 returns : tie.Need-returns
 unfolding policy
 returns c =
-    rw (← c .before .pair-at .ensures, ← c .policy-of .ensures)
+    λ h. rw (← c .before .pair-at .ensures h, ← c .policy-of .ensures)
 
 pub ask-spec : {M : Type 1} → statement M
 ask-spec = tie.close (tie.spec pair-at-requires policy-of-requires returns)

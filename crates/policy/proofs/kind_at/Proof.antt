@@ -10,7 +10,7 @@ pair-at-requires c κs = search needs
 returns : tie.Need-returns
 unfolding kindAt kindOf
 returns c =
-    rw (← c .pair-at .ensures)
+    λ h. rw (← c .pair-at .ensures h)
 
 pub kind-at-spec : {M : Type 1} → statement M
 kind-at-spec = tie.close (tie.spec pair-at-requires returns)

@@ -20,7 +20,7 @@ element-copy-out-result c = search needs
 returns : tie.Need-returns
 unfolding pairOf
 returns c =
-    refl
+    λ h. refl
 
 pub pair-at-spec : {M : Type 1} → statement M
 pair-at-spec =

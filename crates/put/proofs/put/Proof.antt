@@ -20,7 +20,7 @@ enum-told c = search needs
 put-body-requires : tie.Need-put-body-requires
 put-body-requires c κs =
     checked-fits _ _ _ _ (standing-accepted _ _ _ _ (sym (c .before .before .before .before .before .before .before .stands .ensures) ∙ c .before .before .before .before .before .before .if1 .taken))
-    (done-checked _ _ (c .before .before .before .before .before .check .ensures) (c .before .before .before .enum-told .given .1))
+    (done-checked _ _ (c .before .before .before .before .before .check .ensures _) (c .before .before .before .enum-told .given .1))
 
 enum-known-x : tie.Need-enum-known-x
 enum-known-x c = search needs
@@ -40,7 +40,7 @@ returns c =
     tests-passed _ _ _ _ _
     (c .before .before .before .before .before .before .before .before .before .before .before .before .before .before .stands .ensures)
     (c .before .before .before .before .before .before .before .before .before .before .before .before .before .if1 .taken)
-    (c .before .before .before .before .before .before .before .before .before .before .before .before .check .ensures)
+    (c .before .before .before .before .before .before .before .before .before .before .before .before .check .ensures _)
     (c .before .before .before .before .before .before .before .before .before .before .enum-told .given .1)
     (c .before .before .before .before .before .before .put-body .ensures)
 
@@ -59,7 +59,7 @@ returns-2 c =
     argument-refused _ _ _ _ _
     (c .before .before .before .before .before .stands .ensures)
     (c .before .before .before .before .if1 .taken)
-    (c .before .before .before .check .ensures)
+    (c .before .before .before .check .ensures _)
     (c .before .x .given .1)
 
 same-length-7 : tie.Need-same-length-7

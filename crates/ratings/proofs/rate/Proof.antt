@@ -9,7 +9,7 @@ use Rattle.ratings.proofs.rate.Tie as tie
 returns : tie.Need-returns
 unfolding rate policy
 returns c =
-    (rw (c .if1 .taken), search needs)
+    (λ h. rw (c .if1 .taken), search needs)
 
 size-requires : tie.Need-size-requires
 size-requires c κs = search needs
@@ -17,7 +17,7 @@ size-requires c κs = search needs
 returns-2 : tie.Need-returns-2
 unfolding rate policy
 returns-2 c = (
-  rw (
+  λ h. rw (
     c .before .before .before .if1 .left,
     ← c .before .before .size .ensures .0,
     lt-ltb _ _ (c .if2 .taken),
@@ -34,11 +34,11 @@ rated-of-requires c κs = search needs
 returns-3 : tie.Need-returns-3
 unfolding rate policy
 returns-3 c = (
-  rw (
+  λ h. rw (
     c .before .before .before .before .before .if1 .left,
     ← c .before .before .before .before .size .ensures .0,
     le-ltb _ _ (c .before .before .if2 .left),
-    ← c .before .pair-at .ensures,
+    ← c .before .pair-at .ensures h,
     ← c .rated-of .ensures .0,
   ),
   search needs,

@@ -18,11 +18,11 @@ enum-told-2 c = search needs
 
 returns : tie.Need-returns
 unfolding reserving
-returns c = rw (c .before .before .enum-told .given .1, ← c .before .locals-of .ensures .0, ← c .tree-count .ensures .0)
+returns c = λ pairs. rw (c .before .before .enum-told .given .1, ← c .before .locals-of .ensures .0, ← c .tree-count .ensures .0)
 
 returns-2 : tie.Need-returns-2
 unfolding reserving
-returns-2 c = rw (c .enum-told2 .given .1)
+returns-2 c = λ pairs. rw (c .enum-told2 .given .1)
 
 pub is-reserving-spec : {M : Type 1} → statement M
 is-reserving-spec =

@@ -33,8 +33,8 @@ returns : tie.Need-returns
 returns c = (
   turn-steals _ _ _ _
       (c .before .before .before .before .before .before .before .before .before .before .before .before .before .index-of .ensures)
-      (c .before .before .before .before .before .before .before .before .before .before .before .before .start-tree .ensures .0)
-      (c .before .before .before .before .before .before .before .before .before .before .before .is-reserving .ensures)
+      (c .before .before .before .before .before .before .before .before .before .before .before .before .start-tree .ensures .0 _)
+      (c .before .before .before .before .before .before .before .before .before .before .before .is-reserving .ensures _)
       (not-true (c .before .before .before .before .before .before .before .before .before .before .before .is-reserving .result) (c .before .before .before .before .before .before .before .before .before .before .if1 .taken))
       (c .before .before .before .before .before .before .search-and-steal .ensures .0),
   omega (arith, c .before .before .before .before .before .before .search-and-steal .ensures .1),
@@ -62,8 +62,8 @@ returns-2 : tie.Need-returns-2
 returns-2 c = (
   turn-own _ _ _ _
       (c .before .before .before .before .before .before .before .before .before .before .before .before .before .before .before .before .index-of .ensures)
-      (c .before .before .before .before .before .before .before .before .before .before .before .before .before .before .before .start-tree .ensures .0)
-      (c .before .before .before .before .before .before .before .before .before .before .before .before .before .before .is-reserving .ensures)
+      (c .before .before .before .before .before .before .before .before .before .before .before .before .before .before .before .start-tree .ensures .0 _)
+      (c .before .before .before .before .before .before .before .before .before .before .before .before .before .before .is-reserving .ensures _)
       (not-false (c .before .before .before .before .before .before .before .before .before .before .before .before .before .before .is-reserving .result) (c .before .before .before .before .before .before .before .before .before .before .before .before .before .if1 .left))
       (c .before .before .before .before .before .before .before .before .before .before .before .before .slot .ensures)
       (c .before .before .before .before .before .before .before .before .get-local .ensures .0)
@@ -92,8 +92,8 @@ returns-3 : tie.Need-returns-3
 returns-3 c = (
   turn-reserves _ _ _ _
       (c .before .before .before .before .before .before .before .before .before .before .before .before .before .before .before .before .before .before .before .before .before .before .before .before .before .before .before .index-of .ensures)
-      (c .before .before .before .before .before .before .before .before .before .before .before .before .before .before .before .before .before .before .before .before .before .before .before .before .before .before .start-tree .ensures .0)
-      (c .before .before .before .before .before .before .before .before .before .before .before .before .before .before .before .before .before .before .before .before .before .before .before .before .before .is-reserving .ensures)
+      (c .before .before .before .before .before .before .before .before .before .before .before .before .before .before .before .before .before .before .before .before .before .before .before .before .before .before .start-tree .ensures .0 _)
+      (c .before .before .before .before .before .before .before .before .before .before .before .before .before .before .before .before .before .before .before .before .before .before .before .before .before .is-reserving .ensures _)
       (not-false (c .before .before .before .before .before .before .before .before .before .before .before .before .before .before .before .before .before .before .before .before .before .before .before .before .before .is-reserving .result) (c .before .before .before .before .before .before .before .before .before .before .before .before .before .before .before .before .before .before .before .before .before .before .before .before .if1 .left))
       (c .before .before .before .before .before .before .before .before .before .before .before .before .before .before .before .before .before .before .before .before .before .before .before .slot .ensures)
       (c .before .before .before .before .before .before .before .before .before .before .before .before .before .before .before .before .before .before .before .get-local .ensures .0)

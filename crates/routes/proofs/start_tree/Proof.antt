@@ -11,7 +11,7 @@ locals-of-requires c κs = search needs
 
 returns : tie.Need-returns
 unfolding startTree
-returns c = (rw (← c .before .locals-of .ensures .0, eq-eqb _ _ (c .if1 .taken)), search needs)
+returns c = (λ pairs. rw (← c .before .locals-of .ensures .0, eq-eqb _ _ (c .if1 .taken)), search needs)
 
 tree-count-requires : tie.Need-tree-count-requires
 tree-count-requires c κs = search needs
@@ -22,7 +22,7 @@ portion-requires c κs = (omega (arith, c .before .if1 .left), (c .tree-count .e
 returns-2 : tie.Need-returns-2
 unfolding startTree
 returns-2 c = (
-  rw (← c .before .before .before .locals-of .ensures .0, ne-eqb _ _ (c .before .before .if1 .left), ← c .before .tree-count .ensures .0) (c .portion .ensures .0),
+  λ pairs. rw (← c .before .before .before .locals-of .ensures .0, ne-eqb _ _ (c .before .before .if1 .left), ← c .before .tree-count .ensures .0) (c .portion .ensures .0),
   c .portion .ensures .1,
 )
 

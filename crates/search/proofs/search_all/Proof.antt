@@ -8,7 +8,7 @@ tree-count-requires : tie.Need-tree-count-requires
 tree-count-requires c κs = search needs
 
 search-best-requires : tie.Need-search-best-requires
-search-best-requires c κs = (c .before .before .before .before .before .before .before .pre .0, (omega arith, ((c .before .before .before .tree-count .ensures .1 .0 (c .before .before .before .before .before .before .before .pre .0 .some), c .before .before .before .tree-count .ensures .1 .1), (c .before .before .before .before .before .before .before .pre .1 .0, (c .before .before .before .tree-count .ensures .1 .1, (omega arith, omega arith))))))
+search-best-requires c κs = (c .before .before .before .before .before .before .before .pre .0, (omega arith, ((c .before .before .before .tree-count .ensures .1 .0 (c .before .before .before .before .before .before .before .pre .0 .some), c .before .before .before .tree-count .ensures .1 .1), (c .before .before .before .before .before .before .before .pre .1 .0, (c .before .before .before .tree-count .ensures .1 .1, omega (arith, c .before .before .before .tree-count .ensures .1 .1, c .before .before .before .before .before .before .before .pre .1 .1))))))
 
 same-length : tie.Need-same-length
 same-length c = c .before .before .before .before .before .before .search-best .kept .1 .1 .0

@@ -51,8 +51,8 @@ loop-holds c =
       len-t = search needs;
       len-l = search needs;
       len-b = search needs;
-      walked = rw (← v .0 .same _ _ _ _, list-empty);
-      next = v .1;
+      walked = rw (← v .0 .same _ _ _ _ _, list-empty);
+      next = v .1 _;
     }
 
 place-requires : tie.Need-place-requires Inv-loop μ-loop
@@ -61,13 +61,13 @@ place-requires c κs = search needs
 add-seen : tie.Need-add-seen Inv-loop μ-loop
 add-seen c =
     let l = c .before .before .before .before .before .loop .inv in
-    omega (arith, l .high, l .seen-most, c .before .before .before .before .before .before .before .before .before .before .before .pre)
+    omega (arith, l .low, l .seen-most, c .before .before .if1 .taken, c .before .before .before .before .before .before .before .before .before .before .before .pre)
 
 access-requires : tie.Need-access-requires Inv-loop μ-loop
 access-requires c κs =
     let l = c .before .before .before .before .before .before .before .before .loop .inv in
     let p = c .before .before .before .before .before .before .before .before .before .before .before .before .before .before .pre in
-    (p .0, (omega (arith, c .before .before .before .before .place .ensures .1, p .1 .1 .0), (omega (arith, l .high, l .seen-most, p .1 .1 .1), omega (arith, l .high, l .asked-most, p .1 .1 .1))))
+    (p .0, (omega (arith, c .before .before .before .before .place .ensures .1, p .1 .1 .0), omega (arith, l .low, l .asked-most, c .before .before .before .before .before .if1 .taken, p .1 .1 .1)))
 
 ends-requires : tie.Need-ends-requires Inv-loop μ-loop
 ends-requires c κs = search needs
@@ -103,7 +103,7 @@ walk-on-requires-2 : tie.Need-walk-on-requires-2 Inv-loop μ-loop
 walk-on-requires-2 c κs =
     let l = c .before .before .before .before .before .before .before .before .before .before .before .before .before .before .before .before .before .before .before .before .loop .inv in
     let p = c .before .before .before .before .before .before .before .before .before .before .before .before .before .before .before .before .before .before .before .before .before .before .before .before .before .before .pre in
-    (p .0, (p .1 .0, (p .1 .1 .0, (p .1 .1 .1 .0, (p .1 .1 .1 .1 .0, omega (arith, l .high, l .seen-most, c .before .before .before .before .before .before .before .before .before .before .before .access .ensures .1, p .1 .1 .1))))))
+    (p .0 .order, (p .0 .class, (p .1 .0, (p .1 .1 .0, (p .1 .1 .1 .0, (p .1 .1 .1 .1 .0, omega (arith, l .low, l .seen-most, c .before .before .before .before .before .before .before .before .before .before .before .before .before .before .before .before .before .if1 .taken, c .before .before .before .before .before .before .before .before .before .before .before .access .ensures .1, p .1 .1 .1)))))))
 
 loop-less : tie.Need-loop-less Inv-loop μ-loop
 loop-less c = search needs
@@ -124,16 +124,16 @@ loop-again c =
       len-l = omega (arith, l .len-l, c .before .before .before .before .before .before .before .before .before .before .before .before .access .kept);
       len-b = omega (arith, l .len-b, c .before .before .before .before .before .before .before .before .before .before .before .before .access .kept);
       walked =
-          sym (u .0 .same _ _ _ _)
+          sym (u .0 .same _ _ _ _ _)
           ∙ (sym (walk-goes _ _ _ _ _ _ _ _ _ _ _ _ _ _ _ _ _ _ t (c .before .before .before .before .before .before .before .before .before .before .before .before .before .before .before .before .before .place .ensures .0) (l .next t) (v .0) e) ∙ l .walked);
-      next = u .1;
+      next = u .1 _;
     }
 
 try-list-requires : tie.Need-try-list-requires Inv-loop μ-loop
 try-list-requires c κs =
     let l = c .before .before .before .before .before .before .before .loop .inv in
     let p = c .before .before .before .before .before .before .before .before .before .before .before .before .before .pre in
-    (p .0, (p .1 .0, (omega (arith, l .high, l .seen-most, p .1 .1 .1), omega (arith, l .high, l .asked-most, p .1 .1 .1))))
+    (p .0, (p .1 .0, omega (arith, l .low, l .high, l .asked-most, p .1 .1 .1)))
 
 same-length-4 : tie.Need-same-length-4 Inv-loop μ-loop
 same-length-4 c = c .before .before .before .before .before .before .try-list .kept .1 .1 .0 ∙ c .before .before .before .before .before .before .before .before .before .before .before .before .before .before .loop .inv .len-t

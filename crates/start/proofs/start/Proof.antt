@@ -1,5 +1,6 @@
 -- `start::start` meets its contract. Assumes nothing.
 use mathlib.Core.Path.{refl, sym, ap, _∙_}
+use mathlib.Core.List.{[]}
 use Rattle.ways.specs.State.{State}
 use Rattle.ways.specs.Calls.{telling, outcomeOf, numberOf}
 use Rattle.step_laws.specs.Tested.{lengths-say, frames-small}
@@ -17,7 +18,7 @@ lengths-exact-requires c κs = frames-small _ _ (sym (c .before .before .before 
 
 start-body-requires : tie.Need-start-body-requires
 start-body-requires c κs =
-    let l = lengths-say _ _ _ _ (sym (c .before .before .before .before .lengths-exact .ensures) ∙ c .before .before .before .if2 .taken) in
+    let l = lengths-say _ _ _ _ (sym (c .before .before .before .before .lengths-exact .ensures []) ∙ c .before .before .before .if2 .taken) in
     (frames-small _ _ (sym (c .before .before .before .before .before .before .before .before .before .accepts .ensures) ∙ c .before .before .before .before .before .before .before .before .if1 .taken), (l .treeWords, (l .localWords, l .bitWords)))
 
 same-length : tie.Need-same-length
@@ -35,7 +36,7 @@ returns c =
     rw (
       ← c .before .before .before .before .before .before .before .before .before .before .before .before .before .before .before .before .accepts .ensures,
       c .before .before .before .before .before .before .before .before .before .before .before .before .before .before .before .if1 .taken,
-      ← c .before .before .before .before .before .before .before .before .before .before .before .lengths-exact .ensures,
+      ← c .before .before .before .before .before .before .before .before .before .before .before .lengths-exact .ensures _,
       c .before .before .before .before .before .before .before .before .before .before .if2 .taken,
     )
     (ap (λ (s : State). telling 0 0 0 s) (c .before .before .before .before .before .before .start-body .ensures _))
@@ -55,7 +56,7 @@ returns-2 c =
     rw (
       ← c .before .before .before .before .before .before .accepts .ensures,
       c .before .before .before .before .before .if1 .taken,
-      ← c .before .lengths-exact .ensures,
+      ← c .before .lengths-exact .ensures _,
       c .if2 .left,
     )
 

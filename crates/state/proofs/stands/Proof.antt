@@ -1,5 +1,7 @@
 -- `state::stands` meets its contract. Assumes nothing.
 use mathlib.Core.Path.{sym, _∙_}
+use mathlib.Core.List.{[]}
+use native.Mathlib.Omega.{arith}
 use Rattle.step_laws.specs.Tested.{lengths-say}
 use Rattle.lengths.specs.Exact.{frames-most, exact-says}
 use Rattle.state.specs.Inside.{inside-few}
@@ -17,15 +19,16 @@ lengths-exact-requires c κs = frames-most _ (sym (c .before .accepts .ensures) 
 
 entries-stand-requires : tie.Need-entries-stand-requires
 entries-stand-requires c κs =
-    exact-says _ _ _ _ (sym (c .before .before .before .accepts .ensures) ∙ c .before .before .if1 .taken) (sym (c .before .lengths-exact .ensures) ∙ c .if2 .taken)
+    let x = exact-says _ _ _ _ (sym (c .before .before .before .accepts .ensures) ∙ c .before .before .if1 .taken) (sym (c .before .lengths-exact .ensures _) ∙ c .if2 .taken) in
+    omega (arith, x .entries, x .words)
 
 locals-stand-requires : tie.Need-locals-stand-requires
 locals-stand-requires c κs =
-    exact-says _ _ _ _ (sym (c .before .before .before .before .before .accepts .ensures) ∙ c .before .before .before .before .if1 .taken) (sym (c .before .before .before .lengths-exact .ensures) ∙ c .before .before .if2 .taken)
+    exact-says _ _ _ _ (sym (c .before .before .before .before .before .accepts .ensures) ∙ c .before .before .before .before .if1 .taken) (sym (c .before .before .before .lengths-exact .ensures _) ∙ c .before .before .if2 .taken)
 
 apart-requires : tie.Need-apart-requires
 apart-requires c κs =
-    inside-few _ _ _ _ _ (sym (c .before .before .before .before .before .before .before .accepts .ensures) ∙ c .before .before .before .before .before .before .if1 .taken) (sym (c .before .before .before .before .before .lengths-exact .ensures) ∙ c .before .before .before .before .if2 .taken) (sym (c .before .locals-stand .ensures) ∙ c .if4 .taken)
+    inside-few _ _ _ _ _ (sym (c .before .before .before .before .before .before .before .accepts .ensures) ∙ c .before .before .before .before .before .before .if1 .taken) (sym (c .before .before .before .before .before .lengths-exact .ensures _) ∙ c .before .before .before .before .if2 .taken) (sym (c .before .locals-stand .ensures) ∙ c .if4 .taken)
 
 reserved-count-requires : tie.Need-reserved-count-requires
 reserved-count-requires c κs = search needs
@@ -39,18 +42,18 @@ past-held-requires c κs = search needs
 returns : tie.Need-returns
 unfolding standing pastHeld
 returns c =
-    let x = exact-says _ _ _ _ (sym (c .before .before .before .before .before .before .before .before .before .before .before .before .before .accepts .ensures) ∙ c .before .before .before .before .before .before .before .before .before .before .before .before .if1 .taken) (sym (c .before .before .before .before .before .before .before .before .before .before .before .lengths-exact .ensures) ∙ c .before .before .before .before .before .before .before .before .before .before .if2 .taken) in
+    let x = exact-says _ _ _ _ (sym (c .before .before .before .before .before .before .before .before .before .before .before .before .before .accepts .ensures) ∙ c .before .before .before .before .before .before .before .before .before .before .before .before .if1 .taken) (sym (c .before .before .before .before .before .before .before .before .before .before .before .lengths-exact .ensures _) ∙ c .before .before .before .before .before .before .before .before .before .before .if2 .taken) in
     rw (
       ← c .before .before .before .before .before .before .before .before .before .before .before .before .before .accepts .ensures,
       c .before .before .before .before .before .before .before .before .before .before .before .before .if1 .taken,
-      ← c .before .before .before .before .before .before .before .before .before .before .before .lengths-exact .ensures,
+      ← c .before .before .before .before .before .before .before .before .before .before .before .lengths-exact .ensures _,
       c .before .before .before .before .before .before .before .before .before .before .if2 .taken,
       ← x .entries,
-      ← c .before .before .before .before .before .before .before .before .before .entries-stand .ensures,
+      ← c .before .before .before .before .before .before .before .before .before .entries-stand .ensures _,
       c .before .before .before .before .before .before .before .before .if3 .taken,
       ← c .before .before .before .before .before .before .before .locals-stand .ensures,
       c .before .before .before .before .before .before .if4 .taken,
-      ← lengths-say _ _ _ _ (sym (c .before .before .before .before .before .before .before .before .before .before .before .lengths-exact .ensures) ∙ c .before .before .before .before .before .before .before .before .before .before .if2 .taken) .localWords,
+      ← lengths-say _ _ _ _ (sym (c .before .before .before .before .before .before .before .before .before .before .before .lengths-exact .ensures []) ∙ c .before .before .before .before .before .before .before .before .before .before .if2 .taken) .localWords,
       ← c .before .before .before .before .before .apart .ensures,
       c .before .before .before .before .if5 .taken,
       ← c .before .before .before .reserved-count .ensures,
@@ -62,18 +65,18 @@ returns c =
 returns-2 : tie.Need-returns-2
 unfolding standing pastHeld
 returns-2 c =
-    let x = exact-says _ _ _ _ (sym (c .before .before .before .before .before .before .before .before .before .before .before .before .accepts .ensures) ∙ c .before .before .before .before .before .before .before .before .before .before .before .if1 .taken) (sym (c .before .before .before .before .before .before .before .before .before .before .lengths-exact .ensures) ∙ c .before .before .before .before .before .before .before .before .before .if2 .taken) in
+    let x = exact-says _ _ _ _ (sym (c .before .before .before .before .before .before .before .before .before .before .before .before .accepts .ensures) ∙ c .before .before .before .before .before .before .before .before .before .before .before .if1 .taken) (sym (c .before .before .before .before .before .before .before .before .before .before .lengths-exact .ensures _) ∙ c .before .before .before .before .before .before .before .before .before .if2 .taken) in
     rw (
       ← c .before .before .before .before .before .before .before .before .before .before .before .before .accepts .ensures,
       c .before .before .before .before .before .before .before .before .before .before .before .if1 .taken,
-      ← c .before .before .before .before .before .before .before .before .before .before .lengths-exact .ensures,
+      ← c .before .before .before .before .before .before .before .before .before .before .lengths-exact .ensures _,
       c .before .before .before .before .before .before .before .before .before .if2 .taken,
       ← x .entries,
-      ← c .before .before .before .before .before .before .before .before .entries-stand .ensures,
+      ← c .before .before .before .before .before .before .before .before .entries-stand .ensures _,
       c .before .before .before .before .before .before .before .if3 .taken,
       ← c .before .before .before .before .before .before .locals-stand .ensures,
       c .before .before .before .before .before .if4 .taken,
-      ← lengths-say _ _ _ _ (sym (c .before .before .before .before .before .before .before .before .before .before .lengths-exact .ensures) ∙ c .before .before .before .before .before .before .before .before .before .if2 .taken) .localWords,
+      ← lengths-say _ _ _ _ (sym (c .before .before .before .before .before .before .before .before .before .before .lengths-exact .ensures []) ∙ c .before .before .before .before .before .before .before .before .before .if2 .taken) .localWords,
       ← c .before .before .before .before .apart .ensures,
       c .before .before .before .if5 .taken,
       ← c .before .before .reserved-count .ensures,
@@ -84,18 +87,18 @@ returns-2 c =
 returns-3 : tie.Need-returns-3
 unfolding standing pastHeld
 returns-3 c =
-    let x = exact-says _ _ _ _ (sym (c .before .before .before .before .before .before .before .before .before .accepts .ensures) ∙ c .before .before .before .before .before .before .before .before .if1 .taken) (sym (c .before .before .before .before .before .before .before .lengths-exact .ensures) ∙ c .before .before .before .before .before .before .if2 .taken) in
+    let x = exact-says _ _ _ _ (sym (c .before .before .before .before .before .before .before .before .before .accepts .ensures) ∙ c .before .before .before .before .before .before .before .before .if1 .taken) (sym (c .before .before .before .before .before .before .before .lengths-exact .ensures _) ∙ c .before .before .before .before .before .before .if2 .taken) in
     rw (
       ← c .before .before .before .before .before .before .before .before .before .accepts .ensures,
       c .before .before .before .before .before .before .before .before .if1 .taken,
-      ← c .before .before .before .before .before .before .before .lengths-exact .ensures,
+      ← c .before .before .before .before .before .before .before .lengths-exact .ensures _,
       c .before .before .before .before .before .before .if2 .taken,
       ← x .entries,
-      ← c .before .before .before .before .before .entries-stand .ensures,
+      ← c .before .before .before .before .before .entries-stand .ensures _,
       c .before .before .before .before .if3 .taken,
       ← c .before .before .before .locals-stand .ensures,
       c .before .before .if4 .taken,
-      ← lengths-say _ _ _ _ (sym (c .before .before .before .before .before .before .before .lengths-exact .ensures) ∙ c .before .before .before .before .before .before .if2 .taken) .localWords,
+      ← lengths-say _ _ _ _ (sym (c .before .before .before .before .before .before .before .lengths-exact .ensures []) ∙ c .before .before .before .before .before .before .if2 .taken) .localWords,
       ← c .before .apart .ensures,
       c .if5 .left,
     )
@@ -103,14 +106,14 @@ returns-3 c =
 returns-4 : tie.Need-returns-4
 unfolding standing pastHeld
 returns-4 c =
-    let x = exact-says _ _ _ _ (sym (c .before .before .before .before .before .before .before .accepts .ensures) ∙ c .before .before .before .before .before .before .if1 .taken) (sym (c .before .before .before .before .before .lengths-exact .ensures) ∙ c .before .before .before .before .if2 .taken) in
+    let x = exact-says _ _ _ _ (sym (c .before .before .before .before .before .before .before .accepts .ensures) ∙ c .before .before .before .before .before .before .if1 .taken) (sym (c .before .before .before .before .before .lengths-exact .ensures _) ∙ c .before .before .before .before .if2 .taken) in
     rw (
       ← c .before .before .before .before .before .before .before .accepts .ensures,
       c .before .before .before .before .before .before .if1 .taken,
-      ← c .before .before .before .before .before .lengths-exact .ensures,
+      ← c .before .before .before .before .before .lengths-exact .ensures _,
       c .before .before .before .before .if2 .taken,
       ← x .entries,
-      ← c .before .before .before .entries-stand .ensures,
+      ← c .before .before .before .entries-stand .ensures _,
       c .before .before .if3 .taken,
       ← c .before .locals-stand .ensures,
       c .if4 .left,
@@ -119,14 +122,14 @@ returns-4 c =
 returns-5 : tie.Need-returns-5
 unfolding standing pastHeld
 returns-5 c =
-    let x = exact-says _ _ _ _ (sym (c .before .before .before .before .before .accepts .ensures) ∙ c .before .before .before .before .if1 .taken) (sym (c .before .before .before .lengths-exact .ensures) ∙ c .before .before .if2 .taken) in
+    let x = exact-says _ _ _ _ (sym (c .before .before .before .before .before .accepts .ensures) ∙ c .before .before .before .before .if1 .taken) (sym (c .before .before .before .lengths-exact .ensures _) ∙ c .before .before .if2 .taken) in
     rw (
       ← c .before .before .before .before .before .accepts .ensures,
       c .before .before .before .before .if1 .taken,
-      ← c .before .before .before .lengths-exact .ensures,
+      ← c .before .before .before .lengths-exact .ensures _,
       c .before .before .if2 .taken,
       ← x .entries,
-      ← c .before .entries-stand .ensures,
+      ← c .before .entries-stand .ensures _,
       c .if3 .left,
     )
 
@@ -136,7 +139,7 @@ returns-6 c =
     rw (
       ← c .before .before .before .accepts .ensures,
       c .before .before .if1 .taken,
-      ← c .before .lengths-exact .ensures,
+      ← c .before .lengths-exact .ensures _,
       c .if2 .left,
     )
 

@@ -34,20 +34,20 @@ reserved-requires : tie.Need-reserved-requires
 reserved-requires c κs = search needs
 
 same-length : tie.Need-same-length
-same-length c = c .before .before .before .before .before .reserve-or-steal .kept .1 .1 .0
+same-length c = c .before .before .before .before .before .reserve-or-steal .kept .1 .0
 
 returns : tie.Need-returns
 returns c = (
   reserve-none _ _ _ _ _
       (c .before .before .before .before .before .before .size .ensures .0)
-      (c .before .before .before .before .before .reserve-or-steal .ensures)
+      (c .before .before .before .before .before .reserve-or-steal .ensures _)
       (c .before .enum-told .given .1)
       (c .missed .ensures .0 _ _ _),
   omega (arith, c .missed .ensures .1),
 )
 
 same-length-2 : tie.Need-same-length-2
-same-length-2 c = c .before .before .before .before .ask-lower .kept .1 .1 .0 ∙ c .before .before .before .before .before .before .before .before .before .before .before .before .reserve-or-steal .kept .1 .1 .0
+same-length-2 c = c .before .before .before .before .ask-lower .kept .1 .1 .0 ∙ c .before .before .before .before .before .before .before .before .before .before .before .before .reserve-or-steal .kept .1 .0
 
 same-length-3 : tie.Need-same-length-3
 same-length-3 c = c .before .before .before .before .ask-lower .kept .1 .1 .1 .0
@@ -56,7 +56,7 @@ returns-2 : tie.Need-returns-2
 returns-2 c = (
   reserve-part _ _ _ _ _
       (c .before .before .before .before .before .before .before .before .before .before .before .before .before .size .ensures .0)
-      (c .before .before .before .before .before .before .before .before .before .before .before .before .reserve-or-steal .ensures)
+      (c .before .before .before .before .before .before .before .before .before .before .before .before .reserve-or-steal .ensures _)
       (c .before .before .before .before .before .before .before .before .e .given .1)
       (c .before .before .before .before .ask-lower .ensures .0 _)
       (omega arith),
@@ -64,7 +64,7 @@ returns-2 c = (
 )
 
 same-length-4 : tie.Need-same-length-4
-same-length-4 c = c .before .before .before .before .before .before .reserved .kept .1 .1 .0 ∙ c .before .before .before .before .before .before .before .before .before .before .before .before .before .before .before .reserve-or-steal .kept .1 .1 .0
+same-length-4 c = c .before .before .before .before .before .before .reserved .kept .1 .1 .0 ∙ c .before .before .before .before .before .before .before .before .before .before .before .before .before .before .before .reserve-or-steal .kept .1 .0
 
 same-length-5 : tie.Need-same-length-5
 same-length-5 c = c .before .before .before .before .before .before .reserved .kept .1 .1 .1 .0
@@ -76,7 +76,7 @@ returns-3 : tie.Need-returns-3
 returns-3 c = (
   reserve-whole _ _ _ _ _
       (c .before .before .before .before .before .before .before .before .before .before .before .before .before .before .before .before .size .ensures .0)
-      (c .before .before .before .before .before .before .before .before .before .before .before .before .before .before .before .reserve-or-steal .ensures)
+      (c .before .before .before .before .before .before .before .before .before .before .before .before .before .before .before .reserve-or-steal .ensures _)
       (c .before .before .before .before .before .before .before .before .before .before .before .e2 .given .1)
       (c .before .before .before .before .before .before .reserved .ensures .0),
   c .before .before .before .before .before .before .reserved .ensures .1,

@@ -28,20 +28,20 @@ ask-lower-requires : tie.Need-ask-lower-requires
 ask-lower-requires c κs = search needs
 
 same-length : tie.Need-same-length
-same-length c = c .before .before .before .before .before .steal .kept .1 .1 .0
+same-length c = c .before .before .before .before .before .steal .kept .1 .0
 
 returns : tie.Need-returns
 returns c = (
   steal-none _ _ _ _ _
       (c .before .before .before .before .before .before .size .ensures .0)
-      (c .before .before .before .before .before .steal .ensures)
+      (c .before .before .before .before .before .steal .ensures _)
       (c .before .enum-told .given .1)
       (c .missed .ensures .0 _ _ _),
   omega (arith, c .missed .ensures .1),
 )
 
 same-length-2 : tie.Need-same-length-2
-same-length-2 c = c .before .before .before .before .ask-lower .kept .1 .1 .0 ∙ c .before .before .before .before .before .before .before .before .before .before .before .before .steal .kept .1 .1 .0
+same-length-2 c = c .before .before .before .before .ask-lower .kept .1 .1 .0 ∙ c .before .before .before .before .before .before .before .before .before .before .before .before .steal .kept .1 .0
 
 same-length-3 : tie.Need-same-length-3
 same-length-3 c = c .before .before .before .before .ask-lower .kept .1 .1 .1 .0
@@ -50,7 +50,7 @@ returns-2 : tie.Need-returns-2
 returns-2 c = (
   steal-asks _ _ _ _ _
       (c .before .before .before .before .before .before .before .before .before .before .before .before .before .size .ensures .0)
-      (c .before .before .before .before .before .before .before .before .before .before .before .before .steal .ensures)
+      (c .before .before .before .before .before .before .before .before .before .before .before .before .steal .ensures _)
       (c .before .before .before .before .before .before .before .before .e .given .1)
       (c .before .before .before .before .ask-lower .ensures .0 _)
       (omega arith),

@@ -71,23 +71,23 @@ class-row-requires-8 c κs =
     (search needs, (summed-few _ _ _ _ (omega arith) n (e .0) 7 (omega arith), summed-few _ _ _ _ (omega arith) n (e .1 .1) 7 (omega arith)))
 
 returns : tie.Need-returns
-returns c =
+returns c = λ pairs.
     let e = c .before .before .before .before .before .before .before .before .before .before .entries-by-class .ensures in
     let n = c .before .before .before .before .before .before .before .before .before .before .before .tree-count .ensures .0 in
     let g = c .before .before .before .before .before .before .before .before .reserved-by-class .ensures in
     let m = c .before .before .before .before .before .before .before .before .before .local-count .ensures .0 in
-    let x = config (c .before .before .before .before .before .before .before .before .before .before .before .before .before .before .args .h) (c .before .before .before .before .before .before .before .before .before .before .before .before .before .before .args .table .now) in
+    let x = config (c .before .before .before .before .before .before .before .before .before .before .before .before .before .before .args .h) pairs in
     let row : (k : ℕ) → k < 8 → rowOf 11 (c .before .before .before .before .before .before .before .before .before .before .entries-by-class .result) (localFree x (c .before .before .before .before .before .before .before .before .before .before .before .before .before .before .args .locals .now) k) (c .before .before .before .before .before .before .before .before .reserved-by-class .result) k ≡ tally x (c .before .before .before .before .before .before .before .before .before .before .before .before .before .before .args .trees .now) (c .before .before .before .before .before .before .before .before .before .before .before .before .before .before .args .locals .now) k =
     λ k l. row-is x (c .before .before .before .before .before .before .before .before .before .before .before .before .before .before .args .trees .now) (c .before .before .before .before .before .before .before .before .before .before .before .before .before .before .args .locals .now) (c .before .before .before .before .before .before .before .before .before .before .entries-by-class .result) (c .before .before .before .before .before .before .before .before .reserved-by-class .result) k l (rw (← n) (e .0)) (rw (← n) (e .1 .0)) (rw (← n) (e .1 .1)) (rw (← m) g) in
     eight (tally x (c .before .before .before .before .before .before .before .before .before .before .before .before .before .before .args .trees .now) (c .before .before .before .before .before .before .before .before .before .before .before .before .before .before .args .locals .now))
-    (c .before .before .before .before .before .before .before .class-row .ensures ∙ row 0 (omega arith))
-    (c .before .before .before .before .before .before .class-row2 .ensures ∙ row 1 (omega arith))
-    (c .before .before .before .before .before .class-row3 .ensures ∙ row 2 (omega arith))
-    (c .before .before .before .before .class-row4 .ensures ∙ row 3 (omega arith))
-    (c .before .before .before .class-row5 .ensures ∙ row 4 (omega arith))
-    (c .before .before .class-row6 .ensures ∙ row 5 (omega arith))
-    (c .before .class-row7 .ensures ∙ row 6 (omega arith))
-    (c .class-row8 .ensures ∙ row 7 (omega arith))
+    (c .before .before .before .before .before .before .before .class-row .ensures pairs ∙ row 0 (omega arith))
+    (c .before .before .before .before .before .before .class-row2 .ensures pairs ∙ row 1 (omega arith))
+    (c .before .before .before .before .before .class-row3 .ensures pairs ∙ row 2 (omega arith))
+    (c .before .before .before .before .class-row4 .ensures pairs ∙ row 3 (omega arith))
+    (c .before .before .before .class-row5 .ensures pairs ∙ row 4 (omega arith))
+    (c .before .before .class-row6 .ensures pairs ∙ row 5 (omega arith))
+    (c .before .class-row7 .ensures pairs ∙ row 6 (omega arith))
+    (c .class-row8 .ensures pairs ∙ row 7 (omega arith))
 
 pub all-rows-spec : {M : Type 1} → statement M
 all-rows-spec =

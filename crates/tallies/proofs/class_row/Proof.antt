@@ -10,7 +10,7 @@ row-requires : tie.Need-row-requires
 row-requires c κs = search needs
 
 returns : tie.Need-returns
-returns c = rw (← c .before .local-free .ensures .0) (c .row .ensures)
+returns c = λ pairs. rw (← c .before .local-free .ensures .0 pairs) (c .row .ensures)
 
 pub class-row-spec : {M : Type 1} → statement M
 class-row-spec = tie.close (tie.spec local-free-requires row-requires returns)

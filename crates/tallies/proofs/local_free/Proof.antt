@@ -12,10 +12,10 @@ use Rattle.tallies.proofs.local_free.Statement.{statement}
 use Rattle.tallies.proofs.local_free.Tie as tie
 
 abbrev Inv-loop : tie.InvT-loop
-Inv-loop table locals class first n free₀ i₀ free i = (i ≤ n) × ((free ≤ 524288 * i) × (free ≡ freeFrom locals first i))
+Inv-loop locals class first n free₀ i₀ free i = (i ≤ n) × ((free ≤ 524288 * i) × (free ≡ freeFrom locals first i))
 
 abbrev μ-loop : tie.MeasureT-loop
-μ-loop table locals class first n free₀ i₀ free i = n - i
+μ-loop locals class first n free₀ i₀ free i = n - i
 
 first-slot-requires : tie.Need-first-slot-requires Inv-loop μ-loop
 first-slot-requires c κs = search needs
@@ -57,7 +57,7 @@ returns : tie.Need-returns Inv-loop μ-loop
 unfolding localFree freeFrom slot
 returns c =
     let q : c .before .loop .i ≡ c .before .before .locals-of .result = omega arith in
-    (rw (c .before .loop .inv .1 .1, q, c .before .before .locals-of .ensures .0, c .before .before .before .first-slot .ensures .0), omega (arith, c .before .before .locals-of .ensures .1))
+    (λ pairs. rw (c .before .loop .inv .1 .1, q, c .before .before .locals-of .ensures .0, c .before .before .before .first-slot .ensures .0), omega (arith, c .before .before .locals-of .ensures .1))
 
 pub local-free-spec : {M : Type 1} → statement M
 local-free-spec =

@@ -24,9 +24,9 @@ returns c =
       ← c .before .before .before .before .stands .ensures,
       c .before .before .before .if1 .taken,
       eq-eqb _ _ (c .before .before .if2 .taken),
-      ← c .before .totals .ensures .0,
-      ← c .before .totals .ensures .1,
-      ← c .all-rows .ensures,
+      ← c .before .totals .ensures .0 _,
+      ← c .before .totals .ensures .1 _,
+      ← c .all-rows .ensures (c .before .before .before .before .before .before .before .before .args .table .now),
     )
 
 refused-requires : tie.Need-refused-requires

@@ -17,17 +17,17 @@ local-count-requires c κs = search needs
 locals-whole-requires : tie.Need-locals-whole-requires
 locals-whole-requires c κs = search needs
 
+add-t6 : tie.Need-add-t6
+add-t6 c = search needs
+
 add-t7 : tie.Need-add-t7
 add-t7 c = search needs
-
-add-t8 : tie.Need-add-t8
-add-t8 c = search needs
 
 returns : tie.Need-returns
 unfolding totalFree freeTrees entriesFree entriesWhole localsFree localsWhole
 returns c = (
-  rw (c .before .before .before .before .before .before .entries-whole .ensures .0, c .before .before .before .before .locals-whole .ensures .0, c .before .before .before .before .before .before .before .tree-count .ensures .0, c .before .before .before .before .before .local-count .ensures .0),
-  rw (c .before .before .before .before .before .before .entries-whole .ensures .1 .0, c .before .before .before .before .locals-whole .ensures .1 .0, c .before .before .before .before .before .before .before .tree-count .ensures .0, c .before .before .before .before .before .local-count .ensures .0),
+  λ pairs. rw (c .before .before .before .before .before .before .entries-whole .ensures .0, c .before .before .before .before .locals-whole .ensures .0, c .before .before .before .before .before .before .before .tree-count .ensures .0, c .before .before .before .before .before .local-count .ensures .0),
+  λ pairs. rw (c .before .before .before .before .before .before .entries-whole .ensures .1 .0, c .before .before .before .before .locals-whole .ensures .1 .0, c .before .before .before .before .before .before .before .tree-count .ensures .0, c .before .before .before .before .before .local-count .ensures .0),
 )
 
 pub totals-spec : {M : Type 1} → statement M
@@ -38,6 +38,6 @@ totals-spec =
     entries-whole-requires
     local-count-requires
     locals-whole-requires
+    add-t6
     add-t7
-    add-t8
     returns)

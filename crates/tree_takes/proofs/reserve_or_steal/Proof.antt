@@ -37,9 +37,9 @@ same-length c = search needs
 returns : tie.Need-returns
 unfolding entryReserve keepTaken
 returns c =
-    rw (
+    λ h. rw (
       ← c .before .before .before .load .ensures .0,
-      ← c .before .before .reserve-or-steal .ensures,
+      ← c .before .before .reserve-or-steal .ensures h,
       c .enum-told .given .1,
     )
 
@@ -49,9 +49,9 @@ same-length-2 c = search needs
 returns-2 : tie.Need-returns-2
 unfolding entryReserve keepTaken
 returns-2 c =
-    rw (
+    λ h. rw (
       ← c .before .before .before .before .before .before .before .before .before .load .ensures .0,
-      ← c .before .before .before .before .before .before .before .before .reserve-or-steal .ensures,
+      ← c .before .before .before .before .before .before .before .before .reserve-or-steal .ensures h,
       c .before .before .before .before .before .before .part .given .1,
       ← c .before .before .before .tree-word .ensures,
       ← c .before .before .store .ensures,
@@ -63,9 +63,9 @@ same-length-3 c = search needs
 returns-3 : tie.Need-returns-3
 unfolding entryReserve keepTaken
 returns-3 c =
-    rw (
+    λ h. rw (
       ← c .before .before .before .before .before .before .before .before .before .load .ensures .0,
-      ← c .before .before .before .before .before .before .before .before .reserve-or-steal .ensures,
+      ← c .before .before .before .before .before .before .before .before .reserve-or-steal .ensures h,
       c .before .before .before .before .before .before .reserved .given .1,
       ← c .before .before .before .tree-word2 .ensures,
       ← c .before .before .store2 .ensures,

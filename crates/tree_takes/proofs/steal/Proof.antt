@@ -28,9 +28,9 @@ same-length c = search needs
 returns : tie.Need-returns
 unfolding entrySteal keepTook
 returns c =
-    rw (
+    λ h. rw (
       ← c .before .before .before .load .ensures .0,
-      ← c .before .before .steal .ensures,
+      ← c .before .before .steal .ensures h,
       c .enum-told .given .1,
     )
 
@@ -40,9 +40,9 @@ same-length-2 c = search needs
 returns-2 : tie.Need-returns-2
 unfolding entrySteal keepTook
 returns-2 c =
-    rw (
+    λ h. rw (
       ← c .before .before .before .before .before .before .before .before .before .load .ensures .0,
-      ← c .before .before .before .before .before .before .before .before .steal .ensures,
+      ← c .before .before .before .before .before .before .before .before .steal .ensures h,
       c .before .before .before .before .before .before .left .given .1,
       ← c .before .before .before .tree-word .ensures,
       ← c .before .before .store .ensures,

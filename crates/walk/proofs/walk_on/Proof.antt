@@ -3,7 +3,6 @@ use mathlib.Core.Path.{refl}
 use Prim.Native.Nat.{_-_}
 use native.Mathlib.Omega.{arith}
 use borrow.Author.Needs.{needs}
-use Rattle.rules.specs.Words.{config}
 use Rattle.ways.specs.State.{st, withLook}
 use Rattle.best.specs.List.{listOf}
 use Rattle.walk.specs.Walked.{Walked, walk-passed}
@@ -11,14 +10,14 @@ use Rattle.walk.proofs.walk_on.Statement.{statement}
 use Rattle.walk.proofs.walk_on.Tie as tie
 
 abbrev Inv-loop : tie.InvT-loop
-Inv-loop h table trees q w p i looks list₀ seen₀ k₀ list seen k =
-    Walked (config h table) q w (p .m) (p .n) (p .start) i (p .last) (listOf (p .m) list₀) trees looks k (listOf (p .m) list) seen
+Inv-loop table trees q w p i looks list₀ seen₀ k₀ list seen k =
+    Walked table q w (p .m) (p .n) (p .start) i (p .last) (listOf (p .m) list₀) trees looks k (listOf (p .m) list) seen
 
 abbrev μ-loop : tie.MeasureT-loop
-μ-loop h table trees q w p i looks list₀ seen₀ k₀ list seen k = p .last - k
+μ-loop table trees q w p i looks list₀ seen₀ k₀ list seen k = p .last - k
 
 loop-holds : tie.Need-loop-holds Inv-loop μ-loop
-loop-holds c = record { same = λ j ls bs tries. refl; low = omega arith; high = omega arith; most = omega arith }
+loop-holds c = record { same = λ h j ls bs tries. refl; low = omega arith; high = omega arith; most = omega arith }
 
 place-requires : tie.Need-place-requires Inv-loop μ-loop
 place-requires c κs = search needs
@@ -32,7 +31,7 @@ rate-requires c κs = search needs
 returns : tie.Need-returns Inv-loop μ-loop
 returns c = (
   c .before .before .before .before .before .before .loop .inv,
-  λ lt. rw (← c .before .before .before .place .ensures .0, ← c .before .before .load .ensures .0, ← c .before .rate .ensures .0) (c .if2 .taken),
+  λ h lt. rw (← c .before .before .before .place .ensures .0, ← c .before .before .load .ensures .0, ← c .before .rate .ensures .0 h) (c .if2 .taken),
 )
 
 offer-requires : tie.Need-offer-requires Inv-loop μ-loop
@@ -56,15 +55,15 @@ loop-again c =
     let d = c .before .before .before .load .ensures .0 in
     let v = c .before .before .rate .ensures .0 in
     record {
-      same = λ j ls bs tries.
-          rw (walk-passed _ _ _ j _ _ _ _ _ _ (st _ ls bs _ tries) _ _ _ t p d v (c .before .if2 .left), ← c .offer .ensures) at (l .same j ls bs tries);
+      same = λ h j ls bs tries.
+          rw (walk-passed _ _ _ j _ _ _ _ _ _ (st _ ls bs _ tries) _ _ _ t p d (v h) (c .before .if2 .left), ← c .offer .ensures) at (l .same h j ls bs tries);
       low = omega (arith, l .low);
       high = omega (arith, l .high, t);
       most = omega (arith, l .most, l .low);
     }
 
 returns-2 : tie.Need-returns-2 Inv-loop μ-loop
-returns-2 c = (c .before .before .loop .inv, λ lt. absurd (omega (arith, lt, c .if1 .left)))
+returns-2 c = (c .before .before .loop .inv, λ h lt. absurd (omega (arith, lt, c .if1 .left)))
 
 pub walk-on-spec : {M : Type 1} → statement M
 walk-on-spec =

@@ -1,0 +1,2 @@
+-- a take from a local that has enough
+pub mod Paid
