@@ -52,7 +52,6 @@ fn class_row(h: Header, locals: &[u64], e: Entries, reserved: [usize; 8], class:
 }
 
 // The eight rows, one for each class.
-#[repr(C)]
 pub struct Rows {
     pub r0: Tally,
     pub r1: Tally,
