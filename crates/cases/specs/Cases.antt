@@ -24,7 +24,7 @@ use Rattle.ways.specs.Search.{near, roundDown, roundedStart, searchFar, searchF
 use Rattle.ways.specs.Get.{lastRoutes, getAt, startTree, orFrom, getReserving, searchTrees, getAny, routes}
 use Rattle.ways.specs.Standing.{lengthsExact, entryStands, holderStands, localStands, classStands, apart, apartBefore, reservedCount, presentCount, pastHeld, standing}
 use Rattle.ways.specs.Calls.{numberOf, outcomeOf, refuseLocal, refuseClass, refusal, unless, ifStanding, close, frameOf, get, putTo, onGiven, put, drainLocals, onDrained, drainClasses, closeDrain, drain, freeAtStart, freshTree, freshWord, freshState, start}
-use Rattle.ways.specs.Examples.{match255, demote, steal, tableT, tableT5, asks, gives, startsHeld, drains, stands, number, tree, local, Example, answered, given, examples, further, heldWords, anyone, local0, all5, counted, untested, begun}
+use Rattle.ways.specs.Examples.{match255, demote, steal, tableT, tableT5, asks, gives, startsHeld, drains, stands, number, tree, local, Example, answered, given, examples, further, nines, heldWords, anyone, local0, all5, counted, untested, begun}
 
 -- words in which every eighth frame is held: 1,792 frames of a tree are free, and no aligned block of eight
 abbrev combed : ℕ → List ℕ
@@ -122,10 +122,12 @@ tallied = counted 0x10000001 7 ∷ counted 0x10000002 8 ∷ counted 0x10000002 7
 abbrev pub untouched : List (List ℕ)
 untouched = (11 ∷ 0 ∷ 0 ∷ replicate 6 7) ∷ (1 ∷ 0 ∷ 0 ∷ replicate 6 7) ∷ (1 ∷ 0 ∷ 0 ∷ replicate 6 7) ∷ []
 
--- E1 to E12, the further cases, the cases and the statistics come out as given
-pub claims : (answered examples ≡ given examples) × ((answered further ≡ given further) × ((answered cases ≡ given cases) × (tallied ≡ untouched)))
+-- E1 to E12, the further cases, those of nine trees, the cases and the statistics come out as given
+pub claims :
+    (answered examples ≡ given examples)
+    × ((answered further ≡ given further) × ((answered nines ≡ given nines) × ((answered cases ≡ given cases) × (tallied ≡ untouched))))
 unfolding ifte allBelow sum listed firstIn treeCount configured localsOf slot localCount treeOf treeWord localOf localWord pairOf kindOf cutOf lowOf highOf policyOf policy kindAt good pairFormed pairAccepted tableFormed rulesAt tableRules framesAccepted placesAccepted defaultAccepted accepted ifFull classAfter putOf stealKind stealOf reserveKind reserveOf unreserveKind unreserveOf syncOf entryPut keepTook entrySteal entryUnreserve keepTaken entryReserve keepSync entrySync inTree localTake localPut localRow localSwap localClear hasEnough cyclic firstLocal payerOr mayPay mayMove payerIn stealAny demoteAny held heldIn clearBits clear mark searchIn hasTree lowerFind lowerTake lowerGet lowerPut indexOf done missed missedAt stuck orElse withTrees withLocals withBits withTry withLook onTook onTaken onSync onHeld onPut onSwap onFound putEntry setRow askLower unreserve unreserveLocal takeBy topBy topUp getLocal ownLocal payFrom stealLocal demoteTo moveFrom demoteLocal place ratedIn rate insert admit stealGlobal reserved reserveOrSteal access tried offered visit onSight walkSteps walk tryList stopped searchBest near roundDown roundedStart searchFar searchFrom searchAndReserve searchAndSteal lastRoutes getAt startTree orFrom getReserving searchTrees getAny routes lengthsExact entryStands holderStands localStands classStands apart apartBefore reservedCount presentCount pastHeld standing numberOf outcomeOf refuseLocal refuseClass refusal unless ifStanding close frameOf get putTo onGiven put drainLocals onDrained drainClasses closeDrain drain freeAtStart freshTree freshWord freshState start overClass entryFree localFree entryAlloc reservedFree inUse tally tallies totalFree freeTrees statistics
-claims = (refl, (refl, (refl, refl)))
+claims = (refl, (refl, (refl, (refl, refl))))
 
 pub claim : answered examples ≡ given examples
 claim = claims .0
