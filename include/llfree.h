@@ -7,8 +7,8 @@
  * tested at each call but a start.
  *
  * The caller's part: each pointer is valid for its length, aligned for its type and not null (where the length is 0,
- * as that of the locals where no class has any, the address of any word or row of that type does), the buffers of one
- * call do not overlap, the rows counted in, and no other thread uses them during the call.
+ * as that of the locals where no class has any, the address of any word or row of that type does), the buffers, the
+ * rows and the table of one call do not overlap, and no other thread uses them during the call.
  *
  * Link with libllfree_c.a (x86-64), which `rt staticlib llfree_c` makes. It asks for memcpy, memset, memmove and memcmp at most.
  *

@@ -214,7 +214,7 @@ pub struct Frames<'a> {
     pub bits: &'a mut [u64],
 }
 
-// Every pointer below is a slice's, with its length; the buffers, rows too, are lent apart from each other by the borrow checker.
+// Every pointer below is a slice's, with its length, but the table's, of 64 words; the buffers, rows too, are lent apart from each other by the borrow checker.
 impl Frames<'_> {
     /// A start, all free or all held. Every lent word is written, or, refused with Config, none.
     pub fn start(&mut self, all_free: bool) -> Result<(), Refusal> {

@@ -26,7 +26,7 @@ use Rattle.step_laws.specs.Steps.{ifte-ind}
 use Rattle.step_laws.specs.Checked.{refusal-range}
 use Rattle.step_laws.specs.Answers.{unless-ind, standing-ind}
 use Rattle.complete.specs.Complete.{number-back}
-use Rattle.sequence.specs.Demand.{Promised, Chain}
+use Rattle.sequence.specs.Demand.{foundIn, leftIn, Promised, Chain}
 use Rattle.sequence.specs.Sequence.{sequence, never-stuck}
 use Rattle.c_forms.specs.declared.Summary.{Summary}
 use Rattle.chains.specs.Chains.{Call, gets, puts, drains, reports, starts, Answered, Calls, outcomeFrom, grantedFrom, totalsFrom, stepOf, steps, ArchiveSequence}
@@ -121,7 +121,10 @@ module _ (h : Header) (pairs : List ℕ) where
   promised (puts f q r) s e P = told-back r e _ (put-few (config h pairs) (s .trees) (s .locals) (s .bits) q f) P
   promised (drains r) s e P = told-back r e _ (drain-few (config h pairs) (s .trees) (s .locals) (s .bits)) P
   promised (reports rows r filled) s e (P, d) = (report-back r filled _ (statistics-few (config h pairs) (s .trees) (s .locals) (s .bits) rows) P, d)
-  promised (starts d table free lent r left) s e (P, A) = (told-back r left _ (start-few (config d table) (lent .trees) (lent .locals) (lent .bits) free) P, A)
+  promised (starts d table free t l b r) s e (P, A) = (
+    told-back r (leftIn t l b e) _ (start-few (config d table) (foundIn t l b s .trees) (foundIn t l b s .locals) (foundIn t l b s .bits) free) P,
+    A,
+  )
 
   -- and so every call of a chain
   pub archive-chain : (xs : List Call) (s e : Words) → Calls h pairs xs s e → Chain h pairs (steps xs) s e

@@ -14,7 +14,7 @@ use Rattle.ways.specs.declared.Tally.{Tally}
 use Rattle.ways.specs.declared.Totals.{Totals}
 use Rattle.ways.specs.Promises.{Words}
 use Rattle.complete.specs.Complete.{refusalOf}
-use Rattle.sequence.specs.Demand.{Step, StateAfter, Chain, NoRestart, NoneStuck, Demand3}
+use Rattle.sequence.specs.Demand.{Lent, Step, foundIn, leftIn, UntouchedIn, Chain, NoRestart, NoneStuck, Demand3}
 use Rattle.sequence.specs.Demand as Demand
 use Rattle.numbers.specs.declared.Answer.{Answer}
 use Rattle.c_forms.specs.declared.Summary.{Summary}
@@ -23,13 +23,13 @@ use Rattle.llfree_c.specs.Promises.{StartNumber, GetAnswer, PutNumber, DrainNum
 -- ---- a chain of the archive's calls, each on the words as the call before left them
 
 -- a call, as the caller sees it: what was asked, and the numbers that were answered; of statistics also the rows lent and the rows after. A start in the chain names a
--- header and a table of its own, and is lent words of its own, as it finds them and as it leaves them: of any lengths, and any of them may be words of the state
+-- header and a table of its own, and is lent tree words, local words and bitmap words, each the state's or others
 pub data Call : Type 0 where
   gets : Name → Request → Answer → Call
   puts : ℕ → Request → ℕ → Call
   drains : ℕ → Call
   reports : List Tally → Summary → List Tally → Call
-  starts : Header → List ℕ → Bool → Words → ℕ → Words → Call
+  starts : Header → List ℕ → Bool → Lent → Lent → Lent → ℕ → Call
 
 -- from the words s to the words e the call satisfies the promise of the archive's function
 abbrev pub Answered : Header → List ℕ → Call → Words → Words → Type 0
@@ -37,7 +37,7 @@ Answered h pairs (gets name q r) s e = GetAnswer h pairs name q s r e
 Answered h pairs (puts f q r) s e = PutNumber h pairs f q s r e
 Answered h pairs (drains r) s e = DrainNumber h pairs s r e
 Answered h pairs (reports rows r filled) s e = StatisticsAnswer h pairs s rows r filled × (e ≡ s)
-Answered h pairs (starts h' pairs' free lent r left) s e = StartNumber h' pairs' free lent r left × StateAfter lent left s e
+Answered h pairs (starts h' pairs' free t l b r) s e = StartNumber h' pairs' free (foundIn t l b s) r (leftIn t l b e) × UntouchedIn t l b s e
 
 -- every call of the chain
 abbrev pub Calls : Header → List ℕ → List Call → Words → Words → Type 0
@@ -66,7 +66,7 @@ stepOf (gets name q r) = Demand.gets name q (record { granted = grantedFrom (r .
 stepOf (puts f q r) = Demand.puts f q (outcomeFrom r)
 stepOf (drains r) = Demand.drains (outcomeFrom r)
 stepOf (reports rows r filled) = Demand.reports rows (totalsFrom r) filled
-stepOf (starts h pairs free lent r left) = Demand.starts h pairs free lent (outcomeFrom r) left
+stepOf (starts h pairs free t l b r) = Demand.starts h pairs free t l b (outcomeFrom r)
 
 -- all of them
 abbrev pub steps : List Call → List Step

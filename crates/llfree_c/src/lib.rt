@@ -1,4 +1,4 @@
-// The library for C and Rust: the exported calls with C types. Each answers with a number of document 01 on any arguments, table, header, lengths and words.
+// The library for C and Rust: the exported calls with C types. Each answers with a number of document 01 on any arguments, table, header, lengths, words and rows.
 use c_forms::Summary;
 use numbers::Answer;
 use rules::Header;

@@ -1,7 +1,7 @@
 -- Demand 3: over any finite sequence of calls after an accepted start, nothing drifts. Chains of calls, the ledger of calls and answers, the statements. Assumes nothing.
 use mathlib.Core.Path.{_≡_}
 use mathlib.Core.Bool.{Bool, true, false, not}
-use mathlib.Core.List.{List, [], _∷_, _++_}
+use mathlib.Core.List.{List, [], _∷_}
 use Prim.Native.Nat.{ℕ, _+_, _-_, _*_, _/_, _^_, _<_}
 use lib.Dec.{eqb, leb, ltb}
 use lib.ListN.{getD, length}
@@ -19,40 +19,48 @@ use Rattle.ways.specs.declared.Tally.{Tally}
 use Rattle.ways.specs.declared.Totals.{Totals}
 use Rattle.ways.specs.Standing.{treeOn, standing}
 use Rattle.ways.specs.Calls.{numberOf, outcomeOf, freeAtStart, atMost}
-use Rattle.ways.specs.Promises.{Words, StartPromise, GetPromise, PutPromise, DrainPromise, StatisticsPromise}
+use Rattle.ways.specs.Promises.{Words, words, StartPromise, GetPromise, PutPromise, DrainPromise, StatisticsPromise}
 
 -- ---- a chain of calls, each on the words as the call before left them
 
--- a call, as the caller sees it: what was asked, and what was answered. A start in the chain names a header and a table of its own, and is lent words of its own,
--- as it finds them and as it leaves them: of any lengths, and any of them may be words of the state
+-- one of the lists that a start in the chain is lent: the state's own, or another, of any length, as it is before and after the call
+pub data Lent : Type 0 where
+  own : Lent
+  other : List ℕ → List ℕ → Lent
+
+-- a call, as the caller sees it: what was asked, and what was answered. A start in the chain names a header and a table of its own, and is lent tree words, local words
+-- and bitmap words, each the state's or others
 pub data Step : Type 0 where
   gets : Name → Request → Reply → Step
   puts : ℕ → Request → Outcome → Step
   drains : Outcome → Step
   reports : List Tally → Totals → List Tally → Step
-  starts : Header → List ℕ → Bool → Words → Outcome → Words → Step
+  starts : Header → List ℕ → Bool → Lent → Lent → Lent → Outcome → Step
 
--- lent words, one list behind the other
-abbrev pub inOne : Words → List ℕ
-inOne w = w .trees ++ (w .locals ++ w .bits)
+-- the list that a start finds, where the state's is xs
+abbrev pub found : Lent → List ℕ → List ℕ
+found own xs = xs
+found (other before after) xs = before
 
--- a word of the state was v, and is w after a call that was lent some words and left them so
-pub data WordAfter (lent left : Words) (v w : ℕ) : Type 0 where
-  -- it is one of those lent, at place i
-  among : (i : ℕ) → v ≡ getD (inOne lent) i 0 → w ≡ getD (inOne left) i 0 → WordAfter lent left v w
-  -- it is none of them, and stays
-  beside : w ≡ v → WordAfter lent left v w
+-- the list that it leaves, where the state's is then ys
+abbrev pub left : Lent → List ℕ → List ℕ
+left own ys = ys
+left (other before after) ys = after
 
--- a list of the state was s, and is e after it: as long, and so each of its words
-pub record ListAfter (lent left : Words) (s e : List ℕ) : Type 0 where
-  pub long : length e ≡ length s
-  pub each : (i : ℕ) → WordAfter lent left (getD s i 0) (getD e i 0)
+-- where another list is lent, the state's is untouched
+abbrev pub Untouched : Lent → List ℕ → List ℕ → Type 0
+Untouched own xs ys = Unit {0}
+Untouched (other before after) xs ys = ys ≡ xs
 
--- the state was s, and is e after it
-pub record StateAfter (lent left s e : Words) : Type 0 where
-  pub trees : ListAfter lent left (s .trees) (e .trees)
-  pub locals : ListAfter lent left (s .locals) (e .locals)
-  pub bits : ListAfter lent left (s .bits) (e .bits)
+-- the same of the three lists: what a start finds in the state s, what it leaves in the state e, and what of the state is untouched
+abbrev pub foundIn : Lent → Lent → Lent → Words → Words
+foundIn t l b s = words (found t (s .trees)) (found l (s .locals)) (found b (s .bits))
+
+abbrev pub leftIn : Lent → Lent → Lent → Words → Words
+leftIn t l b e = words (left t (e .trees)) (left l (e .locals)) (left b (e .bits))
+
+abbrev pub UntouchedIn : Lent → Lent → Lent → Words → Words → Type 0
+UntouchedIn t l b s e = Untouched t (s .trees) (e .trees) × (Untouched l (s .locals) (e .locals) × Untouched b (s .bits) (e .bits))
 
 -- from the words s to the words e the step satisfies the promise of the function that was called
 abbrev pub Promised : Header → List ℕ → Step → Words → Words → Type 0
@@ -60,7 +68,7 @@ Promised h pairs (gets name q r) s e = GetPromise h pairs name q s r e
 Promised h pairs (puts f q r) s e = PutPromise h pairs f q s r e
 Promised h pairs (drains r) s e = DrainPromise h pairs s r e
 Promised h pairs (reports rows r filled) s e = StatisticsPromise h pairs s rows r filled × (e ≡ s)
-Promised h pairs (starts h' pairs' allFree lent r left) s e = StartPromise h' pairs' allFree lent r left × StateAfter lent left s e
+Promised h pairs (starts h' pairs' allFree t l b r) s e = StartPromise h' pairs' allFree (foundIn t l b s) r (leftIn t l b e) × UntouchedIn t l b s e
 
 -- every step of the chain
 abbrev pub Chain : Header → List ℕ → List Step → Words → Words → Type 0
@@ -80,7 +88,7 @@ number (gets name q r) = numberGot (r .granted)
 number (puts f q r) = outcomeOf r
 number (drains r) = outcomeOf r
 number (reports rows r filled) = outcomeOf (r .outcome)
-number (starts h pairs allFree lent r left) = outcomeOf r
+number (starts h pairs allFree t l b r) = outcomeOf r
 
 -- no start in the chain was accepted, whatever it was lent
 abbrev pub NoRestart : List Step → Type 0
@@ -89,7 +97,7 @@ NoRestart (gets name q r ∷ xs) = NoRestart xs
 NoRestart (puts f q r ∷ xs) = NoRestart xs
 NoRestart (drains r ∷ xs) = NoRestart xs
 NoRestart (reports rows r filled ∷ xs) = NoRestart xs
-NoRestart (starts h pairs allFree lent r left ∷ xs) = (outcomeOf r ≡ 0 → ⊥) × NoRestart xs
+NoRestart (starts h pairs allFree t l b r ∷ xs) = (outcomeOf r ≡ 0 → ⊥) × NoRestart xs
 
 -- ---- the ledger, from the calls and their answers alone
 
@@ -114,7 +122,7 @@ handedOut z t (gets name q r ∷ xs) = handed z t (q .order) (r .granted) + hand
 handedOut z t (puts f q r ∷ xs) = handedOut z t xs
 handedOut z t (drains r ∷ xs) = handedOut z t xs
 handedOut z t (reports rows r filled ∷ xs) = handedOut z t xs
-handedOut z t (starts h pairs allFree lent r left ∷ xs) = handedOut z t xs
+handedOut z t (starts h pairs allFree ts ls bs r ∷ xs) = handedOut z t xs
 
 -- frames of tree t given back in all
 unfoldable pub givenBack : ℕ → ℕ → List Step → ℕ
@@ -123,7 +131,7 @@ givenBack z t (gets name q r ∷ xs) = givenBack z t xs
 givenBack z t (puts f q r ∷ xs) = gaveBack z t (q .order) f r + givenBack z t xs
 givenBack z t (drains r ∷ xs) = givenBack z t xs
 givenBack z t (reports rows r filled ∷ xs) = givenBack z t xs
-givenBack z t (starts h pairs allFree lent r left ∷ xs) = givenBack z t xs
+givenBack z t (starts h pairs allFree ts ls bs r ∷ xs) = givenBack z t xs
 
 -- frame x lies in the block of order o at frame f
 unfoldable pub inBlock : ℕ → ℕ → ℕ → Bool
@@ -160,7 +168,7 @@ NoneTwice held (gets name q r ∷ xs) = NotYetHeld held (q .order) (r .granted) 
 NoneTwice held (puts f q r ∷ xs) = AllHeld held (q .order) f r × NoneTwice (heldAfterPut held (q .order) f r) xs
 NoneTwice held (drains r ∷ xs) = NoneTwice held xs
 NoneTwice held (reports rows r filled ∷ xs) = NoneTwice held xs
-NoneTwice held (starts h pairs allFree lent r left ∷ xs) = NoneTwice held xs
+NoneTwice held (starts h pairs allFree t l b r ∷ xs) = NoneTwice held xs
 
 -- no call answers Broken
 abbrev pub NoneBroken : List Step → Type 0
@@ -214,13 +222,18 @@ FromStanding = (h : Header) (pairs : List ℕ) (s e : Words) (xs : List Step)
     → NoRestart xs → Chain h pairs xs s e
     → (NoneBroken xs × NoneStuck xs) × (standing (config h pairs) (e .trees) (e .locals) (e .bits) ≡ true)
 
--- what a call is lent beside the state's words is as it was: statistics their tally rows, a start its words; no other call is lent more
+-- a list that is not the state's is as it was
+abbrev pub AsFound : Lent → Type 0
+AsFound own = Unit {0}
+AsFound (other before after) = after ≡ before
+
+-- what a call is lent beside the state's words is as it was: statistics their tally rows, a start its other lists; no other call is lent more
 abbrev pub LentLeft : Step → Type 0
 LentLeft (reports rows r filled) = filled ≡ rows
 LentLeft (gets name q r) = Unit {0}
 LentLeft (puts f q r) = Unit {0}
 LentLeft (drains r) = Unit {0}
-LentLeft (starts h pairs allFree lent r left) = left ≡ lent
+LentLeft (starts h pairs allFree t l b r) = AsFound t × (AsFound l × AsFound b)
 
 -- from any words: Done and Memory leave them as the rules say, Stuck as the step before left them, all others unchanged, and so is what else is lent
 abbrev pub OthersUnchanged : Type 0

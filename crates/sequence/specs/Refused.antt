@@ -27,8 +27,8 @@ use Rattle.ways.specs.Promises.{Words, StartPromise}
 use Rattle.step_laws.specs.Steps.{ifte-ind}
 use Rattle.step_laws.specs.Answers.{unless-ind, standing-ind}
 use Rattle.complete.specs.Complete.{same-words}
-use Rattle.sequence.specs.Demand.{Step, gets, puts, drains, reports, starts, Promised, number, numberGot, LentLeft}
-use Rattle.sequence.specs.Lent.{state-stays}
+use Rattle.sequence.specs.Demand.{Step, gets, puts, drains, reports, starts, Promised, number, numberGot, foundIn, leftIn, LentLeft}
+use Rattle.sequence.specs.Lent.{state-stays, others-left}
 
 -- what a call that is not Done, Memory or Stuck tells has the words t, l and b
 abbrev Left : List ℕ → List ℕ → List ℕ → Told → Type 0
@@ -94,11 +94,11 @@ got-left (Granted.Refused w) s e i k d P h x y z =
     let u = subst (Left (s .trees) (s .locals) (s .bits)) (sym P) h x y z in
     same-words e s (u .0) (u .1 .0) (u .1 .1)
 
--- of a start: the words that it is lent
-start-kept : (d : Header) (table : List ℕ) (allFree : Bool) (lent : Words) (r : Outcome) (left : Words) → StartPromise d table allFree lent r left
-    → outcomeOf r ≢ 0 → outcomeOf r ≢ 7 → outcomeOf r ≢ 9 → left ≡ lent
-start-kept d table allFree lent r left P =
-    told-left r lent left (start (config d table) allFree (lent .trees) (lent .locals) (lent .bits)) P (start-left (config d table) (lent .trees) (lent .locals) (lent .bits) allFree)
+-- a start leaves the words that it is lent
+start-kept : (d : Header) (table : List ℕ) (allFree : Bool) (s : Words) (r : Outcome) (e : Words) → StartPromise d table allFree s r e
+    → outcomeOf r ≢ 0 → outcomeOf r ≢ 7 → outcomeOf r ≢ 9 → e ≡ s
+start-kept d table allFree s r e P =
+    told-left r s e (start (config d table) allFree (s .trees) (s .locals) (s .bits)) P (start-left (config d table) (s .trees) (s .locals) (s .bits) allFree)
 
 -- a step of any call
 pub step-left : (h : Header) (pairs : List ℕ) (x : Step) (s e : Words) → Promised h pairs x s e → number x ≢ 0 → number x ≢ 7 → number x ≢ 9 → e ≡ s
@@ -109,7 +109,7 @@ step-left h pairs (puts f q r) s e P =
     told-left r s e (put (config h pairs) q f (s .trees) (s .locals) (s .bits)) P (put-left (config h pairs) (s .trees) (s .locals) (s .bits) q f)
 step-left h pairs (drains r) s e P = told-left r s e (drain (config h pairs) (s .trees) (s .locals) (s .bits)) P (drain-left (config h pairs) (s .trees) (s .locals) (s .bits))
 step-left h pairs (reports rows r filled) s e P = λ x y z. P .1
-step-left h pairs (starts d table allFree lent r left) s e P = λ x y z. state-stays lent left s e (start-kept d table allFree lent r left (P .0) x y z) (P .1)
+step-left h pairs (starts d table allFree t l b r) s e P = λ x y z. state-stays t l b s e (start-kept d table allFree (foundIn t l b s) r (leftIn t l b e) (P .0) x y z) (P .1)
 
 -- statistics that are refused leave the rows
 rows-as-lent : (c : Config) (ts ls bs : List ℕ) (rows : List Tally) → statistics c ts ls bs rows .number ≢ 0 → statistics c ts ls bs rows .rows ≡ rows
@@ -127,4 +127,4 @@ lent-left h pairs (puts f q r) s e P x y z = tt
 lent-left h pairs (drains r) s e P x y z = tt
 lent-left h pairs (reports rows r filled) s e P x y z =
     ap (λ (u : Report). u .rows) (P .0) ∙ rows-as-lent (config h pairs) (s .trees) (s .locals) (s .bits) rows (λ n. x (ap (λ (u : Report). u .number) (P .0) ∙ n))
-lent-left h pairs (starts d table allFree lent r left) s e P x y z = start-kept d table allFree lent r left (P .0) x y z
+lent-left h pairs (starts d table allFree t l b r) s e P x y z = others-left t l b s e (start-kept d table allFree (foundIn t l b s) r (leftIn t l b e) (P .0) x y z)

@@ -17,7 +17,7 @@ use Rattle.lower_laws.specs.Clear.{clear-held}
 use Rattle.word_laws.specs.Sizes.{size-eleven}
 use Rattle.hand.specs.Hand.{Kept}
 use Rattle.standing_laws.specs.Standing.{kept-test, test-kept}
-use Rattle.sequence.specs.Demand.{Step, gets, puts, drains, reports, starts, Chain, number, NoRestart, handedOut, givenBack, heldAtStart, heldAfterGet, heldAfterPut, NoneTwice, NoneBroken, NoneStuck, Demand3, Sequence, NeverStuck, FromStanding, OthersUnchanged}
+use Rattle.sequence.specs.Demand.{Step, gets, puts, drains, reports, starts, foundIn, leftIn, Chain, number, NoRestart, handedOut, givenBack, heldAtStart, heldAfterGet, heldAfterPut, NoneTwice, NoneBroken, NoneStuck, Demand3, Sequence, NeverStuck, FromStanding, OthersUnchanged}
 use Rattle.sequence.specs.Blocks.{reserved-is}
 use Rattle.sequence.specs.Refused.{step-left, lent-left}
 use Rattle.sequence.specs.Steps.{Agreed, get-step, put-step, drain-step, count-step, refused-start, start-step}
@@ -75,9 +75,9 @@ module _ (h : Header) (pairs : List ℕ) where
         unbroken = (G .0, R .unbroken);
         unstuck = (G .1, R .unstuck);
       }
-  all-steps held s (starts d table allFree lent r left ∷ xs) e A n (m, (P, C)) =
-      let G = refused-start (config d table) allFree lent r left (P .0) (n .0) in
-      let same : m ≡ s = step-left h pairs (starts d table allFree lent r left) s m P (n .0) (λ z. omega (arith, z, G)) (λ z. omega (arith, z, G)) in
+  all-steps held s (starts d table allFree t l b r ∷ xs) e A n (m, (P, C)) =
+      let G = refused-start (config d table) allFree (foundIn t l b s) r (leftIn t l b m) (P .0) (n .0) in
+      let same : m ≡ s = step-left h pairs (starts d table allFree t l b r) s m P (n .0) (λ z. omega (arith, z, G)) (λ z. omega (arith, z, G)) in
       let R = all-steps held m xs e (subst (Agreed (config h pairs) held) (sym same) A) (n .1) C in
       record {
         kept = R .kept;
