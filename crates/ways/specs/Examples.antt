@@ -253,10 +253,8 @@ further =
 -- cases of nine trees that the lower refuses
 abbrev pub nines : List Example
 nines =
-    -- the far list has eight places: the tree found last, 4, is not tried; Memory leaves the bitmap as it was
+    -- the far list holds eight: the tree found last, 4, is not tried; Memory leaves the bitmap as it was
     record { of = tableT 18432 1 1; calls = stands (replicate 9 0x200007e0) (0 ∷ 0 ∷ []) (dotted 288) ∷ local0 6 0 ∷ []; figures = all5 ++ tree 5 ∷ tree 4 ∷ word 0 ∷ word 287 ∷ []; wants = 7 ∷ 0 ∷ 0 ∷ 12 ∷ 8 ∷ 0x7e0 ∷ 0x200007e0 ∷ 1 ∷ 1 ∷ [] }
-    -- so has the list of the stealing search
-    ∷ record { of = tableT 18432 1 1; calls = stands (replicate 9 0x200007e0) (0 ∷ 0 ∷ []) (dotted 288) ∷ anyone 6 0 ∷ []; figures = all5 ++ tree 5 ∷ tree 4 ∷ []; wants = 7 ∷ 0 ∷ 0 ∷ 9 ∷ 8 ∷ 0x7e0 ∷ 0x200007e0 ∷ [] }
     ∷ []
 
 -- cases of 80 trees: near is 5, and the start is rounded down to a multiple of 16; their state test, which is long, is computed in no crate
