@@ -12,7 +12,7 @@ unsafe extern "C" {
     fn bench_accepts(h: Header, table: *const u32) -> bool;
 }
 
-/// The same algorithms as the crates bits, lower and accept have.
+/// The same algorithms as the crates lower_words, lower and test_accept have.
 pub mod plain {
     use crate::side::Header;
 

@@ -1,4 +1,4 @@
-//! The port: the library's archive, and the single parts that bench_parts exports.
+//! The port: the library's archive, and the single parts that c_bench exports.
 
 use std::hint::black_box;
 

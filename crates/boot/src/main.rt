@@ -1,16 +1,16 @@
 // The boot loader: the firmware's first caller, and the example of how the library is called. It starts the store, takes the frames of the
-// boot patterns (crate `shows`), gives them back, drains, and reports each answer. No refusal is passed over: the crate `says` has what the
+// boot patterns (crate `boot_shows`), gives them back, drains, and reports each answer. No refusal is passed over: the crate `boot_says` has what the
 // loader does on each, the module `refusals` a call for each but Stuck.
 mod refusals;
 
-use patterns::Pattern;
+use boot_patterns::Pattern;
+use boot_shows::Held;
 use rules::Header;
-use shows::Held;
-use ways::Outcome;
+use rules_calls::Outcome;
 ghost use mathlib.Core.Path.{_≡_};
 ghost use Rattle.rules.specs.Words.{config};
-ghost use Rattle.ways.specs.Calls.{outcomeOf};
-ghost use Rattle.board.specs.Board.{Ready};
+ghost use Rattle.rules_calls.specs.Calls.{outcomeOf};
+ghost use Rattle.boot_board.specs.Board.{Ready};
 
 // The figures of the store.
 fn figures<'a>(
@@ -20,8 +20,8 @@ fn figures<'a>(
     locals: &'a [u64],
     bits: &'a [u64],
 ) {
-    let report = lent_rows::report(h, table, trees, locals, bits, 8);
-    says::figures(h.frames, report);
+    let report = stats_lent::report(h, table, trees, locals, bits, 8);
+    boot_says::figures(h.frames, report);
 }
 
 // The patterns in the order in which they are shown.
@@ -41,10 +41,10 @@ fn take_all(
     locals: &mut [u64],
     bits: &mut [u64],
 ) -> [Held; 3] {
-    let mut held = [shows::nothing(); 3];
+    let mut held = [boot_shows::nothing(); 3];
     let mut n = 0;
     while n < 3 {
-        held[n] = shows::show(h, table, trees, locals, bits, pattern(n));
+        held[n] = boot_shows::show(h, table, trees, locals, bits, pattern(n));
         n += 1;
     }
     held
@@ -61,7 +61,7 @@ fn give_all(
 ) {
     let mut n = 0;
     while n < 3 {
-        shows::give(h, table, trees, locals, bits, pattern(n), held[n]);
+        boot_shows::give(h, table, trees, locals, bits, pattern(n), held[n]);
         n += 1;
     }
 }
@@ -72,7 +72,7 @@ fn serve(h: Header, table: &[u32; 64], trees: &mut [u32], locals: &mut [u64], bi
     figures(h, table, trees, locals, bits);
     give_all(h, table, trees, locals, bits, held);
     let drained = drain::drain(h, table, trees, locals, bits);
-    says::outcome(b"drain", drained);
+    boot_says::outcome(b"drain", drained);
     figures(h, table, trees, locals, bits);
 }
 
@@ -94,9 +94,9 @@ fn start(
 fn boot(h: Header, table: &[u32; 64], trees: &mut [u32], locals: &mut [u64], bits: &mut [u64])
     requires { ⌜ Ready (config h (now table)) (now trees) (now locals) (now bits) ⌝ }
 {
-    says::board(h.frames);
+    boot_says::board(h.frames);
     let started = start(h, table, trees, locals, bits);
-    says::outcome(b"start", started);
+    boot_says::outcome(b"start", started);
     match started {
         Outcome::Done => serve(h, table, trees, locals, bits),
         Outcome::Refused(_) => (),
@@ -105,31 +105,31 @@ fn boot(h: Header, table: &[u32; 64], trees: &mut [u32], locals: &mut [u64], bit
 
 // The board.
 fn boot_board() {
-    let table = board::table();
+    let table = boot_board::table();
     let mut trees = [0u32; 32];
     let mut locals = [0u64; 4];
     let mut bits = [0u64; 1024];
-    let h = board::header(board::FRAMES);
+    let h = boot_board::header(boot_board::FRAMES);
     boot(h, &table, &mut trees, &mut locals, &mut bits);
 }
 
 // A board too small for the raster.
 fn boot_small() {
-    let table = board::table();
+    let table = boot_board::table();
     let mut trees = [0u32; 1];
     let mut locals = [0u64; 4];
     let mut bits = [0u64; 32];
-    let h = board::header(board::SMALL);
+    let h = boot_board::header(boot_board::SMALL);
     boot(h, &table, &mut trees, &mut locals, &mut bits);
 }
 
 // The refusals, on a store of the small board.
 fn show_refusals() {
-    let table = board::table();
+    let table = boot_board::table();
     let mut trees = [0u32; 1];
     let mut locals = [0u64; 4];
     let mut bits = [0u64; 32];
-    let h = board::header(board::SMALL);
+    let h = boot_board::header(boot_board::SMALL);
     refusals::show(h, &table, &mut trees, &mut locals, &mut bits);
 }
 

@@ -5,8 +5,8 @@ use rules::Given;
 use rules::Header;
 use rules::Name;
 use rules::Request;
-use ways::Granted;
-use ways::Reply;
+use rules_calls::Granted;
+use rules_calls::Reply;
 
 // The frame that the get names: the one past the last, one that is no multiple of 2, one that is held, or none.
 fn name(frames: usize, n: usize) -> Name {
@@ -57,7 +57,7 @@ fn number(reply: Reply) -> usize {
     let granted = reply.granted;
     match granted {
         Granted::Done { frame: _, class: _ } => 0,
-        Granted::Refused(x) => numbers::refusal_number(x),
+        Granted::Refused(x) => c_numbers::refusal_number(x),
     }
 }
 
@@ -74,7 +74,7 @@ fn short_drain(
     }
     let n = trees.len() - 1;
     let o = drain::drain(h, table, &mut trees[0..n], locals, bits);
-    numbers::number(o)
+    c_numbers::number(o)
 }
 
 // The header with the other class as default: with it the table is not accepted.
@@ -95,10 +95,10 @@ fn seven_rows<'a>(
     locals: &'a [u64],
     bits: &'a [u64],
 ) -> usize {
-    let report = lent_rows::report(h, table, trees, locals, bits, 7);
+    let report = stats_lent::report(h, table, trees, locals, bits, 7);
     let totals = report.totals;
     let outcome = totals.outcome;
-    numbers::number(outcome)
+    c_numbers::number(outcome)
 }
 
 // The number that the call to be refused with n answers.
@@ -113,8 +113,8 @@ fn answer(
     let q = request(n);
     match n {
         1 => short_drain(h, table, trees, locals, bits),
-        10 => numbers::number(start::start(other_default(h), table, trees, locals, bits, true)),
-        8 => numbers::number(put::put(h, table, trees, locals, bits, 1, q)),
+        10 => c_numbers::number(start::start(other_default(h), table, trees, locals, bits, true)),
+        8 => c_numbers::number(put::put(h, table, trees, locals, bits, 1, q)),
         11 => seven_rows(h, table, trees, locals, bits),
         _ => number(get::get(h, table, trees, locals, bits, name(h.frames, n), q)),
     }
@@ -122,7 +122,7 @@ fn answer(
 
 // The call to be refused with n, and the number that it answered.
 fn say(n: usize, number: usize) {
-    says::call(
+    boot_says::call(
         b"|\
         drain on a tree word too few|\
         get of order 12|\
@@ -149,10 +149,10 @@ fn hold_first(
     bits: &mut [u64],
 ) {
     let started = start::start(h, table, trees, locals, bits, true);
-    says::outcome(b"start", started);
+    boot_says::outcome(b"start", started);
     let first = Name::Frame(0);
     let reply = get::get(h, table, trees, locals, bits, first, request(0));
-    says::call(b"get of frame 0|", 0, number(reply));
+    boot_says::call(b"get of frame 0|", 0, number(reply));
 }
 
 // The refusals that a call gives, in turn: 1 to 8, 10 and 11.
@@ -178,7 +178,7 @@ fn refuse(h: Header, table: &[u32; 64], trees: &mut [u32], locals: &mut [u64], b
 
 // Each refusal, on a store of which frame 0 alone is held; last the one that no call gives.
 pub fn show(h: Header, table: &[u32; 64], trees: &mut [u32], locals: &mut [u64], bits: &mut [u64]) {
-    says::say(b"\nWhat the loader does on each refusal\n");
+    boot_says::say(b"\nWhat the loader does on each refusal\n");
     hold_first(h, table, trees, locals, bits);
     refuse(h, table, trees, locals, bits);
     say(9, 9);

@@ -2,7 +2,7 @@
 use rules::Given;
 use rules::Name;
 use rules::Request;
-use ways::Totals;
+use rules_calls::Totals;
 ghost use mathlib.Core.Path.{_≡_};
 ghost use Rattle.c_forms.specs.Args.{nameOf, givenOf, asking};
 ghost use Rattle.c_forms.specs.Summary.{summaryOf};
@@ -52,7 +52,7 @@ pub fn summed(totals: Totals) -> Summary
 {
     let outcome = totals.outcome;
     Summary {
-        number: numbers::number(outcome),
+        number: c_numbers::number(outcome),
         free: totals.free,
         trees: totals.trees,
     }

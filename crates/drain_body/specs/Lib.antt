@@ -1,2 +1,2 @@
--- laws that the loops go by; the definitions are in `ways`
+-- laws that the loops go by; the definitions are in `rules_calls`
 pub mod Loops

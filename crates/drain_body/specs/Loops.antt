@@ -8,11 +8,11 @@ use Rattle.rules.specs.Base.{Out, out, sum}
 use Rattle.rules.specs.Words.{Config, localsOf, slot}
 use Rattle.rules.specs.Locals.{localClear}
 use Rattle.rules.specs.declared.Local.{Local}
-use Rattle.ways.specs.State.{State, onSwap, unreserveLocal}
-use Rattle.ways.specs.Calls.{drainLocals, onDrained, drainClasses}
-use Rattle.unreserves.specs.Returned.{onReturned, local-returned}
+use Rattle.rules_calls.specs.State.{State, onSwap, unreserveLocal}
+use Rattle.rules_calls.specs.Calls.{drainLocals, onDrained, drainClasses}
+use Rattle.tree_returns.specs.Returned.{onReturned, local-returned}
 
--- the local at place j, of class k, becomes absent and its reservation is returned; false where that is stuck
+-- the local in slot j, of class k, becomes absent and its reservation is returned; false where that is stuck
 unfoldable pub drainOne : Config → ℕ → ℕ → State → Out Bool State
 drainOne c k j s = onSwap (localClear (s .locals) j) s (λ l s1. unreserveLocal c l k s1 (out true) (out false))
 

@@ -1,16 +1,16 @@
 // What a drain does once the state test has passed: by class, then index, each reservation is unreserved.
 use rules::Header;
-use ways::Outcome;
-use ways::Refusal;
+use rules_calls::Outcome;
+use rules_calls::Refusal;
 ghost use mathlib.Core.Path.{_≡_};
 ghost use mathlib.Core.List.{List};
 ghost use Prim.Native.Nat.{ℕ, _<_};
 ghost use Rattle.rules.specs.Base.{out};
 ghost use Rattle.rules.specs.Words.{config, localsOf};
-ghost use Rattle.ways.specs.Calls.{fresh, told, drainLocals, drainClasses, closeDrain};
+ghost use Rattle.rules_calls.specs.Calls.{fresh, told, drainLocals, drainClasses, closeDrain};
 ghost use Rattle.drain_body.specs.Loops.{drainOne};
 
-// The local at a place of the lent words becomes absent, and its reservation, if it had one, is returned. False: the return is stuck.
+// The local in a slot of the lent words becomes absent, and its reservation, if it had one, is returned. False: the return is stuck.
 fn drain_local(
     h: Header,
     table: &[u32; 64],
@@ -23,8 +23,8 @@ fn drain_local(
     ensures { λ r. ⌜ ((b : List ℕ) → out r (fresh (now (trees .exit)) (now (locals .exit)) b)
         ≡ drainOne (config h (now (table .entry))) class j (fresh (now (trees .entry)) (now (locals .entry)) b)) ⌝ }
 {
-    let l = local_swaps::clear(locals, j);
-    unreserves::unreserve_local(h, table, trees, class, l)
+    let l = local_words::clear(locals, j);
+    tree_returns::unreserve_local(h, table, trees, class, l)
 }
 
 // The locals of a class, by index.
@@ -39,8 +39,8 @@ fn drain_class(
     ensures { λ r. ⌜ ((b : List ℕ) → out r (fresh (now (trees .exit)) (now (locals .exit)) b)
         ≡ drainLocals (localsOf (h .places) class) (config h (now (table .entry))) class 0 (fresh (now (trees .entry)) (now (locals .entry)) b)) ⌝ }
 {
-    let n = headers::locals_of(h, class);
-    let first = headers::first_slot(h, class);
+    let n = word_header::locals_of(h, class);
+    let first = word_header::first_slot(h, class);
     for i in 0..n {
         if !drain_local(h, table, trees, locals, class, first + i) {
             return false;

@@ -2,10 +2,10 @@
 use rules::Header;
 use rules::Name;
 use rules::Request;
-use ways::Outcome;
-use ways::Refusal;
-use ways::Reply;
-ghost use Rattle.ways.specs.Promises.{words, GetPromise};
+use rules_calls::Outcome;
+use rules_calls::Refusal;
+use rules_calls::Reply;
+ghost use Rattle.rules_calls.specs.Promises.{words, GetPromise};
 
 // A get, of the named frame or of any.
 pub fn get(
@@ -20,12 +20,20 @@ pub fn get(
     ensures { λ r. ⌜ GetPromise h (now (table .entry)) name q (words (now (trees .entry)) (now (locals .entry)) (now (bits .entry)))
         r (words (now (trees .exit)) (now (locals .exit)) (now (bits .exit))) ⌝ }
 {
-    if state::stands(h, table, trees, locals, bits) {
-        match checks::check(h, q, checks::frame_of(name)) {
-            Outcome::Done => grants::reply(routes::routes(h, table, trees, locals, bits, q, name)),
-            Outcome::Refused(x) => grants::refused(x),
+    if test_state::stands(h, table, trees, locals, bits) {
+        match test_arguments::check(h, q, test_arguments::frame_of(name)) {
+            Outcome::Done => get_answer::reply(get_routes::routes(
+                h,
+                table,
+                trees,
+                locals,
+                bits,
+                q,
+                name,
+            )),
+            Outcome::Refused(x) => get_answer::refused(x),
         }
     } else {
-        grants::refused(Refusal::Broken)
+        get_answer::refused(Refusal::Broken)
     }
 }

@@ -6,12 +6,12 @@ use Prim.Native.Nat.{ℕ}
 use Rattle.rules.specs.declared.Header.{Header}
 use Rattle.rules.specs.declared.Name.{Name}
 use Rattle.rules.specs.declared.Request.{Request}
-use Rattle.ways.specs.Calls.{Told, telling, fresh}
-use Rattle.ways.specs.declared.Tally.{Tally}
-use Rattle.ways.specs.Statistics.{Report}
-use Rattle.ways.specs.Promises.{Words}
-use Rattle.complete.specs.Complete.{same-words}
-use Rattle.numbers.specs.declared.Answer.{Answer}
+use Rattle.rules_calls.specs.Calls.{Told, telling, fresh}
+use Rattle.rules_calls.specs.declared.Tally.{Tally}
+use Rattle.rules_calls.specs.Statistics.{Report}
+use Rattle.rules_calls.specs.Promises.{Words}
+use Rattle.thm_complete.specs.Complete.{same-words}
+use Rattle.c_numbers.specs.declared.Answer.{Answer}
 use Rattle.c_forms.specs.declared.Summary.{Summary}
 use Rattle.llfree_c.specs.Promises.{StartNumber, GetAnswer, PutNumber, DrainNumber, StatisticsAnswer}
 

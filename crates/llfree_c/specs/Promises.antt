@@ -1,4 +1,4 @@
--- The promises of the archive's functions, with numbers where the promises of crate `ways` have enums. These very definitions stand in
+-- The promises of the archive's functions, with numbers where the promises of crate `rules_calls` have enums. These very definitions stand in
 -- the `ensures` of the code. Assumes nothing.
 use mathlib.Core.Path.{_≡_}
 use mathlib.Core.Bool.{Bool}
@@ -8,12 +8,12 @@ use Rattle.rules.specs.Words.{config}
 use Rattle.rules.specs.declared.Header.{Header}
 use Rattle.rules.specs.declared.Name.{Name}
 use Rattle.rules.specs.declared.Request.{Request}
-use Rattle.ways.specs.State.{st}
-use Rattle.ways.specs.Calls.{telling, fresh, start, get, put, drain}
-use Rattle.ways.specs.Promises.{Words}
-use Rattle.ways.specs.declared.Tally.{Tally}
-use Rattle.ways.specs.Statistics.{reporting, statistics}
-use Rattle.numbers.specs.declared.Answer.{Answer}
+use Rattle.rules_calls.specs.State.{st}
+use Rattle.rules_calls.specs.Calls.{telling, fresh, start, get, put, drain}
+use Rattle.rules_calls.specs.Promises.{Words}
+use Rattle.rules_calls.specs.declared.Tally.{Tally}
+use Rattle.rules_calls.specs.Statistics.{reporting, statistics}
+use Rattle.c_numbers.specs.declared.Answer.{Answer}
 use Rattle.c_forms.specs.declared.Summary.{Summary}
 
 -- header h, table `pairs`, the words before; the number r, the words after

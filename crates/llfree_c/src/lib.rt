@@ -1,9 +1,9 @@
 // The library for C and Rust: the exported calls with C types. Each answers with a number of document 01 on any arguments, table, header, lengths, words and rows.
 use c_forms::Summary;
-use numbers::Answer;
+use c_numbers::Answer;
 use rules::Header;
-use ways::Tally;
-ghost use Rattle.ways.specs.Promises.{words};
+use rules_calls::Tally;
+ghost use Rattle.rules_calls.specs.Promises.{words};
 ghost use Rattle.c_forms.specs.Args.{nameOf, asking};
 ghost use Rattle.llfree_c.specs.Promises.{StartNumber, GetAnswer, PutNumber, DrainNumber, StatisticsAnswer};
 
@@ -20,7 +20,7 @@ pub extern "C" fn llfree_start(
     ensures { λ r. ⌜ StartNumber h (now (table .entry)) free (words (now (trees .entry)) (now (locals .entry)) (now (bits .entry)))
         r (words (now (trees .exit)) (now (locals .exit)) (now (bits .exit))) ⌝ }
 {
-    numbers::number(start::start(h, table, trees, locals, bits, free))
+    c_numbers::number(start::start(h, table, trees, locals, bits, free))
 }
 
 // A get, of the named frame or of any.
@@ -43,7 +43,7 @@ pub extern "C" fn llfree_get(
 {
     let name = c_forms::name_of(named, frame);
     let q = c_forms::ask(order, class, given, local);
-    numbers::answered(get::get(h, table, trees, locals, bits, name, q))
+    c_numbers::answered(get::get(h, table, trees, locals, bits, name, q))
 }
 
 // A put of the block at a frame.
@@ -64,7 +64,7 @@ pub extern "C" fn llfree_put(
         r (words (now (trees .exit)) (now (locals .exit)) (now (bits .exit))) ⌝ }
 {
     let q = c_forms::ask(order, class, given, local);
-    numbers::number(put::put(h, table, trees, locals, bits, frame, q))
+    c_numbers::number(put::put(h, table, trees, locals, bits, frame, q))
 }
 
 // Every reservation is returned.
@@ -79,7 +79,7 @@ pub extern "C" fn llfree_drain(
     ensures { λ r. ⌜ DrainNumber h (now (table .entry)) (words (now (trees .entry)) (now (locals .entry)) (now (bits .entry)))
         r (words (now (trees .exit)) (now (locals .exit)) (now (bits .exit))) ⌝ }
 {
-    numbers::number(drain::drain(h, table, trees, locals, bits))
+    c_numbers::number(drain::drain(h, table, trees, locals, bits))
 }
 
 // Statistics. The lent rows are handed on, which is proved by a walk of the code: so it is thin, one call and its answer in numbers.

@@ -15,16 +15,16 @@ ghost use Rattle.rules.specs.declared.Held.the-variants as Held;
 pub fn take(locals: &mut [u64], j: usize, name: Name, n: usize) -> Held
     ensures { λ r. ⌜ out r (now (locals .exit)) ≡ localTake 11 (now (locals .entry)) j name n ⌝ }
 {
-    let l = local::load(locals, j);
+    let l = local_words::load(locals, j);
     if l.present {
-        if local::in_tree(l.row, name) {
+        if local_words::in_tree(l.row, name) {
             if n <= l.free {
                 let left = Local {
                     row: l.row,
                     free: l.free - n,
                     present: true,
                 };
-                local::store(locals, j, words::local_word(left));
+                local_words::store(locals, j, word_fields::local_word(left));
                 return Held::Row(l.row);
             }
             return Held::Few {
@@ -45,13 +45,13 @@ pub fn pay(locals: &mut [u64], j: usize, n: usize) -> usize
     ensures { λ r. ⌜ ((name : Name) → hasEnough 11 (localAt (now (locals .entry)) j) name n ≡ true
         → out (Held.Row r) (now (locals .exit)) ≡ localTake 11 (now (locals .entry)) j name n) ⌝ }
 {
-    let l = local::load(locals, j);
+    let l = local_words::load(locals, j);
     let rest = Local {
         row: l.row,
-        free: sizes::less(l.free, n),
+        free: word_sizes::less(l.free, n),
         present: true,
     };
-    local::store(locals, j, words::local_word(rest));
+    local_words::store(locals, j, word_fields::local_word(rest));
     l.row
 }
 
@@ -60,7 +60,7 @@ pub fn put(locals: &mut [u64], j: usize, tree: usize, n: usize) -> bool
     requires { ⌜ n < 2 ^ 32 ⌝ }
     ensures { λ r. ⌜ out r (now (locals .exit)) ≡ localPut 11 (now (locals .entry)) j tree n ⌝ }
 {
-    let held = local::load(locals, j);
+    let held = local_words::load(locals, j);
     if held.present {
         if held.row / 32 == tree {
             let more = Local {
@@ -68,7 +68,7 @@ pub fn put(locals: &mut [u64], j: usize, tree: usize, n: usize) -> bool
                 free: held.free + n,
                 present: true,
             };
-            local::store(locals, j, words::local_word(more));
+            local_words::store(locals, j, word_fields::local_word(more));
             return true;
         }
         return false;

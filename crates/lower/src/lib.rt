@@ -30,7 +30,7 @@ fn find_block(words: &[u64], row: usize, order: usize, name: Name) -> Found
         }
         Name::Frame(f) => {
             if has_tree(words, f / 2048) {
-                if bit_blocks::is_free(words, order, f >> order) {
+                if lower_blocks::is_free(words, order, f >> order) {
                     return Found::At(f >> order);
                 }
                 return Found::Nothing;
@@ -47,8 +47,8 @@ pub fn lower_get(words: &mut [u64], row: usize, order: usize, name: Name) -> Fou
 {
     match find_block(words, row, order, name) {
         Found::At(j) => {
-            let f = j * sizes::size(order);
-            bit_fills::hold(words, order, j);
+            let f = j * word_sizes::size(order);
+            lower_marks::hold(words, order, j);
             Found::At(f)
         }
         Found::Nothing => Found::Nothing,
@@ -62,8 +62,8 @@ pub fn lower_put(words: &mut [u64], order: usize, frame: usize) -> bool
 {
     if has_tree(words, frame / 2048) {
         let block = frame >> order;
-        if bit_blocks::is_held(words, order, block) {
-            bit_fills::release(words, order, block);
+        if lower_blocks::is_held(words, order, block) {
+            lower_marks::release(words, order, block);
             return true;
         }
         return false;

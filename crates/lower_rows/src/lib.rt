@@ -2,9 +2,9 @@
 use rules::Found;
 ghost use mathlib.Core.Path.{_≡_};
 ghost use Prim.Native.Nat.{_<_, _≤_};
-ghost use Rattle.lower_laws.specs.Block.{Block};
-ghost use Rattle.lower_laws.specs.Seek.{seekIn};
-ghost use Rattle.lower_laws.specs.Word.{word, wordSeek};
+ghost use Rattle.law_rules.specs.Block.{Block};
+ghost use Rattle.law_rules.specs.Seek.{seekIn};
+ghost use Rattle.law_rules.specs.WordSeek.{word, wordSeek};
 
 // The first wholly free block of the order `want` in the block `index` of the order `order` of a word, sought in its left half, then in its right half; 64 where there is none.
 fn seek_word(w: u64, order: usize, want: usize, index: usize) -> usize
@@ -12,14 +12,14 @@ fn seek_word(w: u64, order: usize, want: usize, index: usize) -> usize
     ensures { λ r. ⌜ r ≡ wordSeek w order want index ⌝ }
 {
     if order == want {
-        if bit_blocks::word_free(w, order, index) {
+        if lower_blocks::word_free(w, order, index) {
             return index;
         }
         return 64;
     }
     let left = index * 2;
     let right = index * 2 + 1;
-    if bit_blocks::word_held(w, order - 1, left) {
+    if lower_blocks::word_held(w, order - 1, left) {
         return seek_word(w, order - 1, want, right);
     }
     let i = seek_word(w, order - 1, want, left);
@@ -34,10 +34,10 @@ fn first_block(w: u64, want: usize) -> usize
     requires { ⌜ want < 6 ⌝ }
     ensures { λ r. ⌜ r ≡ wordSeek w 6 want 0 ⌝ }
 {
-    let bit = bits::lowest_clear(w);
+    let bit = lower_words::lowest_clear(w);
     if bit < 64 {
         let block = bit >> want;
-        if bit_blocks::word_free(w, want, block) {
+        if lower_blocks::word_free(w, want, block) {
             return block;
         }
         return seek_word(w, 6, want, 0);
@@ -51,7 +51,7 @@ pub fn seek_row(words: &[u64], want: usize, row: usize) -> Found
     ensures { λ r. ⌜ r ≡ seekIn (now (words .entry)) 6 want row 0 ⌝ }
 {
     let i = first_block(words[row], want);
-    let b = row * sizes::size(6 - want);
+    let b = row * word_sizes::size(6 - want);
     if i < 64 {
         return Found::At(b + i);
     }

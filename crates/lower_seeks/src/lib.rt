@@ -3,8 +3,8 @@ use rules::Found;
 ghost use mathlib.Core.Path.{_≡_};
 ghost use Prim.Native.Nat.{_-_, _*_, _/_, _^_, _≤_};
 ghost use Rattle.rules.specs.Lower.{searchIn};
-ghost use Rattle.lower_laws.specs.Block.{Block};
-ghost use Rattle.lower_laws.specs.Seek.{seekIn, passedBy};
+ghost use Rattle.law_rules.specs.Block.{Block};
+ghost use Rattle.law_rules.specs.Seek.{seekIn, passedBy};
 
 // Whether the search upward from a row passes over a block: all of it lies before the row, or every frame of it is held.
 fn passed(words: &[u64], order: usize, index: usize, row: usize) -> bool
@@ -14,7 +14,7 @@ fn passed(words: &[u64], order: usize, index: usize, row: usize) -> bool
     if index < row >> (order - 6) {
         return true;
     }
-    bit_blocks::is_held(words, order, index)
+    lower_blocks::is_held(words, order, index)
 }
 
 // The first wholly free block of the order `want`, upward from the one that holds the row's first frame, in the block `index` of the order `order`: sought in its left half, then in its right half.
@@ -23,7 +23,7 @@ fn seek(words: &[u64], order: usize, want: usize, index: usize, row: usize) -> F
     ensures { λ r. ⌜ r ≡ seekIn (now (words .entry)) order want index (row * 64 / 2 ^ want) ⌝ }
 {
     if order == want {
-        if bit_blocks::is_free(words, order, index) {
+        if lower_blocks::is_free(words, order, index) {
             return Found::At(index);
         }
         return Found::Nothing;
@@ -49,7 +49,7 @@ fn upward(words: &[u64], row: usize, want: usize) -> Found
 {
     if want < 6 {
         let end = row / 32 * 32 + 32;
-        let open = bits::open_word(words, row, end - row);
+        let open = lower_words::open_word(words, row, end - row);
         if open == end {
             return Found::Nothing;
         }
@@ -68,7 +68,7 @@ pub fn find(words: &[u64], row: usize, want: usize) -> Found
     ensures { λ r. ⌜ r ≡ searchIn 11 (now (words .entry)) (row / 32) want row ⌝ }
 {
     let from = row * 64 >> want;
-    if bit_blocks::is_free(words, want, from) {
+    if lower_blocks::is_free(words, want, from) {
         return Found::At(from);
     }
     match upward(words, row, want) {

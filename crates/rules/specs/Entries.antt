@@ -32,7 +32,7 @@ classAfter z d k free (Match r) = ifFull z d k free
 unfoldable pub putOf : Config → Tree → ℕ → Tree
 putOf c t n =
     entry (t .free + n) (t .reserved)
-    (classAfter (c .order) (c .default) (t .class) (t .free + n) (policy c (t .class) (c .default) (t .free + n)))
+    (classAfter (c .treeOrder) (c .default) (t .class) (t .free + n) (policy c (t .class) (c .default) (t .free + n)))
 
 -- Match and Demote set the requested class k, Steal keeps the entry's, Invalid refuses
 unfoldable pub stealKind : Tree → ℕ → ℕ → Kind → Took

@@ -27,7 +27,7 @@ use Rattle.rules.specs.declared.Name.the-variants.{Any, Frame}
 abbrev pub tableT : ℕ → Config
 tableT d =
     record {
-      order = 11;
+      treeOrder = 11;
       frames = 16384;
       default = d;
       places = 3 ∷ 3 ∷ replicate 6 0;
@@ -63,7 +63,7 @@ paid (out (Held.Row row) ls) = 1
 paid (out (Held.Few row free) ls) = 2
 paid (out Held.Absent ls) = 3
 
--- the payer's class and place: 100 + 10 × class + place; 0 for nobody
+-- the payer's class and slot: 100 + 10 × class + slot; 0 for nobody
 abbrev pub payer : Payer → ℕ
 payer Payer.Nobody = 0
 payer (Payer.Local k j) = 100 + 10 * k + j

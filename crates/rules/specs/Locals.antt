@@ -66,7 +66,7 @@ localClear ls j = out (localAt ls j) (set ls j 0)
 unfoldable pub hasEnough : ℕ → Local → Name → ℕ → Bool
 hasEnough z l name n = pick (l .present) (pick (inTree z (l .row) name) (leb n (l .free)) false) false
 
--- locals of class k from the given index cyclically: the place of the one that is d further
+-- locals of class k from the given index cyclically: the slot of the one that is d further
 unfoldable pub cyclic : List ℕ → ℕ → ℕ → ℕ → ℕ
 cyclic ps k from d = slot ps k ((from + d) % localsOf ps k)
 
@@ -98,7 +98,7 @@ unfoldable pub payerIn : (Kind → Bool) → Config → List ℕ → ℕ → ℕ
 payerIn p c ls k from name n i zero = Payer.Nobody
 payerIn p c ls k from name n i (suc m) =
     ifte (both (configured (c .places) ((k + i) % 8)) (p (policy c k ((k + i) % 8) n)))
-    (λ _. payerOr (c .places) ((k + i) % 8) from (firstLocal (c .order) (c .places) ls ((k + i) % 8) from name n) (λ _. payerIn p c ls k from name n (i + 1) m))
+    (λ _. payerOr (c .places) ((k + i) % 8) from (firstLocal (c .treeOrder) (c .places) ls ((k + i) % 8) from name n) (λ _. payerIn p c ls k from name n (i + 1) m))
     (λ _. payerIn p c ls k from name n (i + 1) m)
 
 -- steal goes over classes k, k+1, .. modulo 8 whose kind is Steal or Match

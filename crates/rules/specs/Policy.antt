@@ -56,7 +56,7 @@ pairFormed z w = pick (eqb (kindOf w) 3) (leb (cutOf w) (treeFrames z)) (ltb w 4
 -- a pair with an unconfigured class is Invalid
 unfoldable pub pairAccepted : Config → ℕ → ℕ → Bool
 pairAccepted c o e =
-    both (pairFormed (c .order) (pairOf c o e))
+    both (pairFormed (c .treeOrder) (pairOf c o e))
     (pick (configured (c .places) o) (pick (configured (c .places) e) true (eqb (kindAt c o e) 0)) (eqb (kindAt c o e) 0))
 
 -- a table of that form
@@ -83,7 +83,7 @@ tableRules c = allBelow 512 (λ x. rulesAt c (x / 64) (x / 8 % 8) (x % 8))
 
 -- frames F: 1 to 2,097,152, that is 1,024 trees
 unfoldable pub framesAccepted : Config → Bool
-framesAccepted c = both (ltb 0 (c .frames)) (leb (c .frames) (1024 * treeFrames (c .order)))
+framesAccepted c = both (ltb 0 (c .frames)) (leb (c .frames) (1024 * treeFrames (c .treeOrder)))
 
 -- each class is unconfigured or has 0 to 32 locals
 unfoldable pub placesAccepted : Config → Bool
@@ -111,7 +111,7 @@ Good c o e = 2 ≤ kindAt c o e
 
 -- the three rules in 01's words: over configured classes, with default d
 pub record Accepts (c : Config) : Type 0 where
-  -- (c, c) is good
+  -- (k, k) is good
   pub own : (k : ℕ) → Configured c k → Good c k k
   -- if (o, e) is good and (e, d) is not Invalid then (o, d) is good
   pub back : (o e : ℕ) → Configured c o → Configured c e → Good c o e → 0 < kindAt c e (c .default) → Good c o (c .default)

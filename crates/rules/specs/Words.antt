@@ -23,7 +23,7 @@ hugeOrder z = z - 2
 
 -- header and policy table; `pairs`: the pair (requested, target) at 8 × requested + target
 pub record Config : Type 0 where
-  pub order : ℕ
+  pub treeOrder : ℕ
   pub frames : ℕ
   pub default : ℕ
   pub places : List ℕ
@@ -31,15 +31,15 @@ pub record Config : Type 0 where
 
 -- the configuration that a header and a lent table make: trees of order 11
 abbrev pub config : Header → List ℕ → Config
-config h pairs = record { order = 11; frames = h .frames; default = h .default; places = h .places; pairs = pairs }
+config h pairs = record { treeOrder = 11; frames = h .frames; default = h .default; places = h .places; pairs = pairs }
 
 -- trees n = F / 2,048 rounded up
 unfoldable pub treeCount : ℕ → ℕ → ℕ
 treeCount z f = (f + (treeFrames z - 1)) / treeFrames z
 
--- the trees of a configuration
-abbrev pub trees : Config → ℕ
-trees c = treeCount (c .order) (c .frames)
+-- the number of trees of a configuration
+abbrev pub treesOf : Config → ℕ
+treesOf c = treeCount (c .treeOrder) (c .frames)
 
 -- each class is unconfigured (place 0) or has locals (place: their number plus one)
 unfoldable pub configured : List ℕ → ℕ → Bool
@@ -81,6 +81,6 @@ entry f r k = record { free = f; reserved = r; class = k }
 abbrev pub entryAt : List ℕ → ℕ → Tree
 entryAt ts t = treeOf (getD ts t 0)
 
--- the local at place j of the lent words
+-- the local in slot j of the lent words
 abbrev pub localAt : List ℕ → ℕ → Local
 localAt ls j = localOf (getD ls j 0)

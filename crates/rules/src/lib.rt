@@ -81,7 +81,7 @@ pub enum Held {
     Absent,
 }
 
-// The local that pays, by its class and its place in the lent words.
+// The local that pays, by its class and its slot in the lent words.
 pub enum Payer {
     Nobody,
     Local { class: usize, slot: usize },

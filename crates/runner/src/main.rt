@@ -1,7 +1,7 @@
 // The line runner: reads lines from standard input, makes the calls that they name on one store, and writes the answers to standard output.
-use commands::Command;
-use inputs::Run;
-use stores::Setup;
+use run_commands::Command;
+use run_input::Run;
+use run_store::Setup;
 
 // What a line says, done, but for what it sets; the place past its answer.
 fn obey(
@@ -14,17 +14,17 @@ fn obey(
     bits: &mut [u64; 6400],
     out: &mut [u8; 262144],
 ) -> usize {
-    let at = inputs::room(out, r.at);
+    let at = run_input::room(out, r.at);
     match c {
         Command::Nothing => at,
-        Command::Wrong => answers::wrong(out, at, inputs::counted(r)),
+        Command::Wrong => run_answers::wrong(out, at, run_input::counted(r)),
         Command::Set(_) => at,
         Command::Store(s) => {
-            stores::store(table, trees, locals, bits, s);
+            run_store::store(table, trees, locals, bits, s);
             at
         }
-        Command::Call(c) => calls::call(setup, table, trees, locals, bits, c, out, at),
-        Command::Show(s) => pictures::show(setup, table, trees, locals, bits, s, out, at),
+        Command::Call(c) => run_calls::call(setup, table, trees, locals, bits, c, out, at),
+        Command::Show(s) => run_pictures::show(setup, table, trees, locals, bits, s, out, at),
     }
 }
 
@@ -37,13 +37,13 @@ fn main() {
     let mut buf = [0u8; 65536];
     let mut out = [0u8; 262144];
     let mut turns = u64::MAX;
-    let mut setup = stores::begun();
-    let mut r = inputs::begun();
+    let mut setup = run_store::begun();
+    let mut r = run_input::begun();
     while 0 < turns {
         turns -= 1;
-        let e = inputs::end_of(&buf, r);
+        let e = run_input::end_of(&buf, r);
         if e < r.have {
-            let c = inputs::command(&buf, r, e);
+            let c = run_input::command(&buf, r, e);
             let to = obey(
                 c,
                 r,
@@ -54,10 +54,10 @@ fn main() {
                 &mut bits,
                 &mut out,
             );
-            setup = stores::after(setup, c);
-            r = inputs::past(r, e, to);
+            setup = run_store::after(setup, c);
+            r = run_input::past(r, e, to);
         } else {
-            r = inputs::more(&mut buf, r, &mut out);
+            r = run_input::more(&mut buf, r, &mut out);
             if r.done {
                 return;
             }

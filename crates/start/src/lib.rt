@@ -1,8 +1,8 @@
 // Start, the exported call: header, table and lengths are tested, then all words are set. It answers with a number of document 01 on any arguments, table, header, lengths and words.
 use rules::Header;
-use ways::Outcome;
-use ways::Refusal;
-ghost use Rattle.ways.specs.Promises.{words, StartPromise};
+use rules_calls::Outcome;
+use rules_calls::Refusal;
+ghost use Rattle.rules_calls.specs.Promises.{words, StartPromise};
 
 // A start, all free or all held.
 pub fn start(
@@ -16,8 +16,8 @@ pub fn start(
     ensures { λ r. ⌜ StartPromise h (now (table .entry)) free (words (now (trees .entry)) (now (locals .entry)) (now (bits .entry)))
         r (words (now (trees .exit)) (now (locals .exit)) (now (bits .exit))) ⌝ }
 {
-    if accept::accepts(h, table) {
-        if lengths::lengths_exact(h, trees, locals, bits) {
+    if test_accept::accepts(h, table) {
+        if test_lengths::lengths_exact(h, trees, locals, bits) {
             start_body::start_body(h, trees, locals, bits, free);
             return Outcome::Done;
         }

@@ -5,7 +5,7 @@ ghost use mathlib.Core.List.{List};
 ghost use Prim.Native.Nat.{ℕ, _*_, _^_, _≤_};
 ghost use lib.ListN.{length};
 ghost use Rattle.rules.specs.Words.{config, treeCount, localCount};
-ghost use Rattle.ways.specs.Calls.{fresh, freeAtStart, freshState};
+ghost use Rattle.rules_calls.specs.Calls.{fresh, freeAtStart, freshState};
 
 // How many frames are free: all free, or all held.
 fn free_at_start(free: bool, frames: usize) -> usize

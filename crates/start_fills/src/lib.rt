@@ -3,7 +3,7 @@ ghost use mathlib.Core.Path.{_≡_};
 ghost use Prim.Native.Nat.{_^_, _<_};
 ghost use lib.ListN.{length};
 ghost use Rattle.rules.specs.Base.{listed};
-ghost use Rattle.ways.specs.Calls.{freshTree, freshWord};
+ghost use Rattle.rules_calls.specs.Calls.{freshTree, freshWord};
 
 // Every tree word: those of full trees, of the tree that the first f frames end in, of the others.
 pub fn fill_trees(trees: &mut [u32], f: usize, default: usize)
@@ -14,21 +14,21 @@ pub fn fill_trees(trees: &mut [u32], f: usize, default: usize)
     let whole = f / 2048;
     let full = start_words::tree_word_at(default, 2048, 0);
     if whole < n {
-        fills::fill_entries(trees, 0, whole, full);
-        fills::fill_entries(
+        start_stores::fill_entries(trees, 0, whole, full);
+        start_stores::fill_entries(
             trees,
             whole,
             whole + 1,
             start_words::tree_word_at(default, f, whole),
         );
-        fills::fill_entries(
+        start_stores::fill_entries(
             trees,
             whole + 1,
             n,
             start_words::tree_word_at(default, 0, 0),
         );
     } else {
-        fills::fill_entries(trees, 0, n, full);
+        start_stores::fill_entries(trees, 0, n, full);
     }
 }
 
@@ -37,7 +37,7 @@ pub fn fill_locals(locals: &mut [u64])
     ensures { λ _. ⌜ now (locals .exit) ≡ listed (λ j. 0) 0 (length (now (locals .entry))) ⌝ }
 {
     let n = locals.len();
-    fills::fill_words(locals, 0, n, 0);
+    start_stores::fill_words(locals, 0, n, 0);
 }
 
 // Every bitmap word: those whose frames are all free, the one that the first f frames end in, the others.
@@ -48,10 +48,10 @@ pub fn fill_bits(bits: &mut [u64], f: usize)
     let n = bits.len();
     let whole = f / 64;
     if whole < n {
-        fills::fill_words(bits, 0, whole, 0);
-        fills::fill_words(bits, whole, whole + 1, start_words::bits_word_at(f, whole));
-        fills::fill_words(bits, whole + 1, n, 0xffff_ffff_ffff_ffff);
+        start_stores::fill_words(bits, 0, whole, 0);
+        start_stores::fill_words(bits, whole, whole + 1, start_words::bits_word_at(f, whole));
+        start_stores::fill_words(bits, whole + 1, n, 0xffff_ffff_ffff_ffff);
     } else {
-        fills::fill_words(bits, 0, n, 0);
+        start_stores::fill_words(bits, 0, n, 0);
     }
 }

@@ -1,2 +1,2 @@
--- laws of a part's share; the definitions are in `ways`
+-- laws of a part's share; the definitions are in `rules_calls`
 pub mod Share

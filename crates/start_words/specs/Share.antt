@@ -5,8 +5,8 @@ use native.Mathlib.Nat.{mul-le-mul-right}
 use native.Mathlib.Omega.{arith}
 use lib.Pow.{pow-pos, pow-lt}
 use borrow.Author.Tests.{le-leb, lt-leb}
-use Rattle.lower_laws.specs.Power.{one-shl}
-use Rattle.ways.specs.Calls.{atMost, freshTree, freshWord}
+use Rattle.law_rules.specs.Power.{one-shl}
+use Rattle.rules_calls.specs.Calls.{atMost, freshTree, freshWord}
 
 -- ---- a part's share of the first frames
 

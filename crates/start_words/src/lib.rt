@@ -2,7 +2,7 @@
 use rules::Tree;
 ghost use mathlib.Core.Path.{_≡_};
 ghost use Prim.Native.Nat.{_-_, _*_, _^_, _<_, _≤_};
-ghost use Rattle.ways.specs.Calls.{atMost, freshTree, freshWord};
+ghost use Rattle.rules_calls.specs.Calls.{atMost, freshTree, freshWord};
 
 // Of the first f frames, how many are in the part i, where parts have this size.
 fn share(size: usize, f: usize, i: usize) -> usize
@@ -25,7 +25,7 @@ pub fn tree_word_at(default: usize, f: usize, t: usize) -> u32
     ensures { λ r. ⌜ r ≡ freshTree 11 default f t ⌝ }
 {
     let free = share(2048, f, t);
-    words::tree_word(Tree {
+    word_fields::tree_word(Tree {
         free: free,
         reserved: false,
         class: default,

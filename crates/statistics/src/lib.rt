@@ -1,8 +1,8 @@
 // Statistics, the exported call: it is told by value, and the lent rows are filled.
 use rules::Header;
-use ways::Tally;
-use ways::Totals;
-ghost use Rattle.ways.specs.Promises.{words, StatisticsPromise};
+use rules_calls::Tally;
+use rules_calls::Totals;
+ghost use Rattle.rules_calls.specs.Promises.{words, StatisticsPromise};
 
 // Statistics. A function over a lent slice of structs is proved by a walk of its code: so it is thin, one call, one test and eight stores.
 pub fn statistics<'a, 'b>(
@@ -16,7 +16,7 @@ pub fn statistics<'a, 'b>(
     ensures { λ r. ⌜ StatisticsPromise h (now (table .entry)) (words (now (trees .entry)) (now (locals .entry)) (now (bits .entry)))
         (now (rows .entry)) r (now (rows .exit)) ⌝ }
 {
-    let told = tells::tell(h, table, trees, locals, bits, rows.len());
+    let told = stats_told::tell(h, table, trees, locals, bits, rows.len());
     if told.done {
         rows[0] = told.rows.r0;
         rows[1] = told.rows.r1;

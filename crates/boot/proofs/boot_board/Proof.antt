@@ -1,6 +1,6 @@
 -- `boot::boot_board` is safe and ends. Assumes nothing.
 use borrow.Author.Needs.{needs}
-use Rattle.board.specs.Board.{ready-from, ready-board}
+use Rattle.boot_board.specs.Board.{ready-from, ready-board}
 use Rattle.boot.proofs.boot_board.Statement.{statement}
 use Rattle.boot.proofs.boot_board.Tie as tie
 

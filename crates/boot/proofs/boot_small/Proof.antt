@@ -1,6 +1,6 @@
 -- `boot::boot_small` is safe and ends. Assumes nothing.
 use borrow.Author.Needs.{needs}
-use Rattle.board.specs.Board.{ready-from, ready-small}
+use Rattle.boot_board.specs.Board.{ready-from, ready-small}
 use Rattle.boot.proofs.boot_small.Statement.{statement}
 use Rattle.boot.proofs.boot_small.Tie as tie
 

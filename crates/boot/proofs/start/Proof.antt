@@ -1,8 +1,8 @@
 -- `boot::start` meets its contract. Assumes nothing.
 use borrow.Author.Needs.{needs}
 use mathlib.Core.Path.{ap, _∙_}
-use Rattle.ways.specs.Calls.{Told}
-use Rattle.board.specs.Board.{starts}
+use Rattle.rules_calls.specs.Calls.{Told}
+use Rattle.boot_board.specs.Board.{starts}
 use Rattle.boot.proofs.start.Statement.{statement}
 use Rattle.boot.proofs.start.Tie as tie
 

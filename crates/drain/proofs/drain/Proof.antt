@@ -1,9 +1,9 @@
 -- `drain::drain` meets its contract. Assumes nothing.
 use mathlib.Core.Path.{refl, sym, _∙_}
-use Rattle.ways.specs.Calls.{outcomeOf, numberOf}
-use Rattle.step_laws.specs.Tested.{standing-accepted, default-small}
+use Rattle.rules_calls.specs.Calls.{outcomeOf, numberOf}
+use Rattle.law_calls.specs.Tested.{standing-accepted, default-small}
 use Rattle.rules.specs.Base.{ifte}
-use Rattle.ways.specs.Calls.{drain, ifStanding}
+use Rattle.rules_calls.specs.Calls.{drain, ifStanding}
 use borrow.Author.Needs.{needs}
 use Rattle.drain.proofs.drain.Statement.{statement}
 use Rattle.drain.proofs.drain.Tie as tie

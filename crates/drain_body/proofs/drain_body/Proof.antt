@@ -6,7 +6,7 @@ use lib.ListN.{length}
 use borrow.Author.Needs.{needs}
 use borrow.Author.Tests.{not-true, not-false}
 use Rattle.rules.specs.Words.{config}
-use Rattle.ways.specs.Calls.{numberOf, outcomeOf, fresh, onDrained, drainClasses, closeDrain}
+use Rattle.rules_calls.specs.Calls.{numberOf, outcomeOf, fresh, onDrained, drainClasses, closeDrain}
 use Rattle.drain_body.specs.Loops.{classes-end, classes-more}
 use Rattle.drain_body.proofs.drain_body.Statement.{statement}
 use Rattle.drain_body.proofs.drain_body.Tie as tie

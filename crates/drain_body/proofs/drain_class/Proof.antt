@@ -7,7 +7,7 @@ use lib.ListN.{length}
 use borrow.Author.Needs.{needs}
 use borrow.Author.Tests.{not-true, not-false}
 use Rattle.rules.specs.Words.{config}
-use Rattle.ways.specs.Calls.{fresh, drainLocals}
+use Rattle.rules_calls.specs.Calls.{fresh, drainLocals}
 use Rattle.drain_body.specs.Loops.{locals-end, locals-stuck, locals-next}
 use Rattle.drain_body.proofs.drain_class.Statement.{statement}
 use Rattle.drain_body.proofs.drain_class.Tie as tie

@@ -1,8 +1,8 @@
 -- `drain_body::drain_local` meets its contract. Assumes nothing.
 use native.Mathlib.Omega.{arith}
 use Rattle.drain_body.specs.Loops.{drainOne}
-use Rattle.unreserves.specs.Returned.{local-returned, returned-alone}
-use Rattle.ways.specs.State.{onSwap, withLocals, withTrees}
+use Rattle.tree_returns.specs.Returned.{local-returned, returned-alone}
+use Rattle.rules_calls.specs.State.{onSwap, withLocals, withTrees}
 use borrow.Author.Needs.{needs}
 use Rattle.drain_body.proofs.drain_local.Statement.{statement}
 use Rattle.drain_body.proofs.drain_local.Tie as tie

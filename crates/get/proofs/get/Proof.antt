@@ -1,9 +1,9 @@
 -- `get::get` meets its contract. Assumes nothing.
 use mathlib.Core.Path.{refl, sym, ap, _∙_}
-use Rattle.checks.specs.Checked.{checked-fits}
-use Rattle.step_laws.specs.Tested.{standing-accepted}
-use Rattle.checks.specs.Refusals.{done-checked, state-broken, argument-refused, tests-passed}
-use Rattle.ways.specs.Calls.{numberOf, tellGet, close, get}
+use Rattle.test_arguments.specs.Checked.{checked-fits}
+use Rattle.law_calls.specs.Tested.{standing-accepted}
+use Rattle.test_arguments.specs.Refusals.{done-checked, state-broken, argument-refused, tests-passed}
+use Rattle.rules_calls.specs.Calls.{numberOf, tellGet, close, get}
 use borrow.Author.Needs.{needs}
 use Rattle.get.proofs.get.Statement.{statement}
 use Rattle.get.proofs.get.Tie as tie

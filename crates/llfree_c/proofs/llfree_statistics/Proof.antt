@@ -40,12 +40,12 @@ use Rattle.rules.specs.Words.{config}
 use Rattle.rules.specs.declared.Header.{Header}
 use Rattle.rules.proofs.Header as P
 use Rattle.rules.proofs.Header.Laws as P′
-use Rattle.ways.specs.Statistics.{reporting, toldTotals, statistics}
-use Rattle.ways.specs.declared.Tally.{Tally}
-use Rattle.ways.proofs.Tally as T
-use Rattle.ways.specs.declared.Totals.{Totals}
-use Rattle.ways.proofs.Totals as S
-use Rattle.ways.proofs.Totals.Laws as S′
+use Rattle.rules_calls.specs.Statistics.{reporting, toldTotals, statistics}
+use Rattle.rules_calls.specs.declared.Tally.{Tally}
+use Rattle.rules_calls.proofs.Tally as T
+use Rattle.rules_calls.specs.declared.Totals.{Totals}
+use Rattle.rules_calls.proofs.Totals as S
+use Rattle.rules_calls.proofs.Totals.Laws as S′
 use Rattle.c_forms.specs.declared.Summary.{Summary}
 use Rattle.c_forms.specs.Summary.{summaryOf}
 use Rattle.c_forms.proofs.Summary as N

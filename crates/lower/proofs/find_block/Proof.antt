@@ -1,7 +1,7 @@
 -- `lower::find_block` meets its contract. Assumes nothing.
 use native.Mathlib.Omega.{arith}
 use mathlib.Core.Path.{sym, _∙_}
-use Rattle.lower_laws.specs.Lower.{has-block, frame-block}
+use Rattle.law_rules.specs.Lower.{has-block, frame-block}
 use Rattle.rules.specs.Lower.{lowerFind}
 use borrow.Author.Needs.{needs}
 use Rattle.lower.proofs.find_block.Statement.{statement}

@@ -1,8 +1,8 @@
 -- `lower::lower_get` meets its contract. Assumes nothing.
 use native.Mathlib.Omega.{arith}
 use mathlib.Core.Path.{sym, _∙_}
-use Rattle.lower_laws.specs.Lower.{find-is}
-use Rattle.lower_laws.specs.Tests.{start-small}
+use Rattle.law_rules.specs.Lower.{find-is}
+use Rattle.law_rules.specs.Tests.{start-small}
 use Rattle.rules.specs.Lower.{lowerGet, lowerTake}
 use borrow.Author.Needs.{needs}
 use Rattle.lower.proofs.lower_get.Statement.{statement}

@@ -3,7 +3,7 @@ use native.Mathlib.Omega.{arith}
 use mathlib.Core.Path.{sym, _∙_}
 use borrow.Author.Tests.{eqb-true}
 use Rattle.rules.specs.Lower.{lowerPut}
-use Rattle.lower_laws.specs.Lower.{frame-block}
+use Rattle.law_rules.specs.Lower.{frame-block}
 use borrow.Author.Needs.{needs}
 use Rattle.lower.proofs.lower_put.Statement.{statement}
 use Rattle.lower.proofs.lower_put.Tie as tie

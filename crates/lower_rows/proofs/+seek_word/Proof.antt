@@ -1,16 +1,16 @@
 -- `lower_rows::seek_word` meets its contract. Assumes nothing.
 use borrow.Author.Needs.{needs}
 use native.Mathlib.Omega.{arith}
-use Rattle.lower_laws.specs.Block.{block-few, half-left, half-right}
-use Rattle.lower_laws.specs.Word.{word-yes, word-no, word-right, word-left, word-next}
+use Rattle.law_rules.specs.Block.{block-few, half-left, half-right}
+use Rattle.law_rules.specs.WordSeek.{word-yes, word-no, word-right, word-left, word-next}
 use Prim.Native.Nat.{ℕ, _<_}
 use borrow.Fn.Kinds.{In}
 use borrow.Fn.PlainCycle.{Measures, is, falls, and}
 use Rattle.lower_rows.proofs.seek_word.Reads as seek-word
 use Rattle.lower_rows.proofs.seek_word.Kinds as seek-word-kinds
 use Rattle.lower_rows.proofs.+seek_word.Lts-seek_word as seek-word-lts
-use Rattle.bit_blocks.proofs.word_free.Reads as word-free-reads
-use Rattle.bit_blocks.proofs.word_held.Reads as word-held-reads
+use Rattle.lower_blocks.proofs.word_free.Reads as word-free-reads
+use Rattle.lower_blocks.proofs.word_held.Reads as word-held-reads
 use Rattle.lower_rows.proofs.+seek_word.{statement}
 use Rattle.lower_rows.proofs.+seek_word.Tie.{close}
 

@@ -2,7 +2,7 @@
 use mathlib.Core.Path.{ap, sym, _∙_}
 use Prim.Native.Nat.{ℕ, _/_, _^_}
 use borrow.Author.Needs.{needs}
-use Rattle.lower_laws.specs.LowestClear.{clear-block, clear-first}
+use Rattle.law_rules.specs.LowestClear.{clear-block, clear-first}
 use Rattle.lower_rows.proofs.first_block.Statement.{statement}
 use Rattle.lower_rows.proofs.first_block.Tie as tie
 

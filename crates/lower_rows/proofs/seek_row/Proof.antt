@@ -1,6 +1,6 @@
 -- `lower_rows::seek_row` meets its contract. Assumes nothing.
 use native.Mathlib.Omega.{arith}
-use Rattle.lower_laws.specs.Word.{word-mul, word-found, word-none}
+use Rattle.law_rules.specs.WordSeek.{word-mul, word-found, word-none}
 use borrow.Author.Needs.{needs}
 use Rattle.lower_rows.proofs.seek_row.Statement.{statement}
 use Rattle.lower_rows.proofs.seek_row.Tie as tie

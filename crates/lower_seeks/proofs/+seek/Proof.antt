@@ -1,15 +1,15 @@
 -- `lower_seeks::seek` meets its contract. Assumes nothing.
 use borrow.Author.Needs.{needs}
 use native.Mathlib.Omega.{arith}
-use Rattle.lower_laws.specs.Block.{block-few, half-left, half-right}
-use Rattle.lower_laws.specs.Seek.{leaf-yes, leaf-no, at-word, right-only, from-left, from-right, right-reached, left-reached}
+use Rattle.law_rules.specs.Block.{block-few, half-left, half-right}
+use Rattle.law_rules.specs.Seek.{leaf-yes, leaf-no, at-word, right-only, from-left, from-right, right-reached, left-reached}
 use Prim.Native.Nat.{ℕ, _<_}
 use borrow.Fn.Kinds.{In}
 use borrow.Fn.PlainCycle.{Measures, is, falls, and}
 use Rattle.lower_seeks.proofs.seek.Reads as seek
 use Rattle.lower_seeks.proofs.seek.Kinds as seek-kinds
 use Rattle.lower_seeks.proofs.+seek.Lts-seek as seek-lts
-use Rattle.bit_blocks.proofs.is_free.Reads as is-free-reads
+use Rattle.lower_blocks.proofs.is_free.Reads as is-free-reads
 use Rattle.lower_seeks.proofs.passed.Reads as passed-reads
 use Rattle.lower_rows.proofs.seek_row.Reads as seek-row-reads
 use Rattle.lower_seeks.proofs.+seek.{statement}

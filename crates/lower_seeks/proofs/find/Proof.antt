@@ -2,7 +2,7 @@
 use mathlib.Core.Path.{_≡_}
 use Prim.Native.Nat.{_*_, _/_}
 use native.Mathlib.Omega.{arith}
-use Rattle.lower_laws.specs.Search.{hint-free, hint-block, seek-hint, seek-round}
+use Rattle.law_rules.specs.Search.{hint-free, hint-block, seek-hint, seek-round}
 use borrow.Author.Needs.{needs}
 use Rattle.lower_seeks.proofs.find.Statement.{statement}
 use Rattle.lower_seeks.proofs.find.Tie as tie

@@ -1,6 +1,6 @@
 -- `lower_seeks::passed` meets its contract. Assumes nothing.
 use borrow.Author.Tests.{lt-ltb, le-ltb}
-use Rattle.lower_laws.specs.Seek.{passedBy}
+use Rattle.law_rules.specs.Seek.{passedBy}
 use borrow.Author.Needs.{needs}
 use Rattle.lower_seeks.proofs.passed.Statement.{statement}
 use Rattle.lower_seeks.proofs.passed.Tie as tie

@@ -1,6 +1,6 @@
 -- `lower_seeks::upward` meets its contract. Assumes nothing.
 use native.Mathlib.Omega.{arith}
-use Rattle.lower_laws.specs.Open.{opened, open-none, open-found}
+use Rattle.law_rules.specs.Open.{opened, open-none, open-found}
 use borrow.Author.Needs.{needs}
 use Rattle.lower_seeks.proofs.upward.Statement.{statement}
 use Rattle.lower_seeks.proofs.upward.Tie as tie

@@ -1,9 +1,9 @@
 -- `put::put` meets its contract. Assumes nothing.
 use mathlib.Core.Path.{refl, sym, _∙_}
-use Rattle.checks.specs.Checked.{checked-fits}
-use Rattle.step_laws.specs.Tested.{standing-accepted}
-use Rattle.checks.specs.Refusals.{done-checked, state-broken, argument-refused, tests-passed}
-use Rattle.ways.specs.Calls.{numberOf, outcomeOf, put}
+use Rattle.test_arguments.specs.Checked.{checked-fits}
+use Rattle.law_calls.specs.Tested.{standing-accepted}
+use Rattle.test_arguments.specs.Refusals.{done-checked, state-broken, argument-refused, tests-passed}
+use Rattle.rules_calls.specs.Calls.{numberOf, outcomeOf, put}
 use borrow.Author.Needs.{needs}
 use Rattle.put.proofs.put.Statement.{statement}
 use Rattle.put.proofs.put.Tie as tie

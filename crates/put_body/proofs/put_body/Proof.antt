@@ -1,7 +1,7 @@
 -- `put_body::put_body` meets its contract. Assumes nothing.
 use native.Mathlib.Omega.{arith}
-use Rattle.ways.specs.Calls.{onGiven, outcomeOf, numberOf}
-use Rattle.ways.specs.State.{withBits}
+use Rattle.rules_calls.specs.Calls.{onGiven, outcomeOf, numberOf}
+use Rattle.rules_calls.specs.State.{withBits}
 use borrow.Author.Needs.{needs}
 use Rattle.put_body.proofs.put_body.Statement.{statement}
 use Rattle.put_body.proofs.put_body.Tie as tie

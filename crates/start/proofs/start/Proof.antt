@@ -1,11 +1,11 @@
 -- `start::start` meets its contract. Assumes nothing.
 use mathlib.Core.Path.{refl, sym, ap, _∙_}
 use mathlib.Core.List.{[]}
-use Rattle.ways.specs.State.{State}
-use Rattle.ways.specs.Calls.{telling, outcomeOf, numberOf}
-use Rattle.step_laws.specs.Tested.{lengths-say, frames-small}
+use Rattle.rules_calls.specs.State.{State}
+use Rattle.rules_calls.specs.Calls.{telling, outcomeOf, numberOf}
+use Rattle.law_calls.specs.Tested.{lengths-say, frames-small}
 use Rattle.rules.specs.Base.{ifte}
-use Rattle.ways.specs.Calls.{start}
+use Rattle.rules_calls.specs.Calls.{start}
 use borrow.Author.Needs.{needs}
 use Rattle.start.proofs.start.Statement.{statement}
 use Rattle.start.proofs.start.Tie as tie

@@ -1,5 +1,5 @@
 -- `start_body::free_at_start` meets its contract. Assumes nothing.
-use Rattle.ways.specs.Calls.{freeAtStart}
+use Rattle.rules_calls.specs.Calls.{freeAtStart}
 use Rattle.start_body.proofs.free_at_start.Statement.{statement}
 use Rattle.start_body.proofs.free_at_start.Tie as tie
 

@@ -1,9 +1,9 @@
 -- `start_body::start_body` meets its contract. Assumes nothing.
 use Prim.Native.Nat.{ℕ, _*_, _^_, _<_, _≤_}
 use native.Mathlib.Omega.{arith}
-use Rattle.policy_laws.specs.Count.{count-most}
+use Rattle.law_rules.specs.Count.{count-most}
 use Rattle.rules.specs.Words.{treeCount}
-use Rattle.ways.specs.Calls.{freshState}
+use Rattle.rules_calls.specs.Calls.{freshState}
 use borrow.Author.Needs.{needs}
 use Rattle.start_body.proofs.start_body.Statement.{statement}
 use Rattle.start_body.proofs.start_body.Tie as tie

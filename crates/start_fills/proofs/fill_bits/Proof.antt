@@ -1,7 +1,7 @@
 -- `start_fills::fill_bits` meets its contract: three fills, or one. Assumes nothing.
 use native.Mathlib.Omega.{arith}
 use borrow.Author.Needs.{needs}
-use Rattle.fills.specs.Fill.{all-filled, parts-filled}
+use Rattle.start_stores.specs.Fill.{all-filled, parts-filled}
 use Rattle.start_words.specs.Share.{word-free, word-held}
 use Rattle.start_fills.proofs.fill_bits.Statement.{statement}
 use Rattle.start_fills.proofs.fill_bits.Tie as tie

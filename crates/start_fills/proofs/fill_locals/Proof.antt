@@ -1,7 +1,7 @@
 -- `start_fills::fill_locals` meets its contract: one fill. Assumes nothing.
 use mathlib.Core.Path.{refl}
 use borrow.Author.Needs.{needs}
-use Rattle.fills.specs.Fill.{all-filled}
+use Rattle.start_stores.specs.Fill.{all-filled}
 use Rattle.start_fills.proofs.fill_locals.Statement.{statement}
 use Rattle.start_fills.proofs.fill_locals.Tie as tie
 

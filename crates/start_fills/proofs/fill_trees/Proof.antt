@@ -1,7 +1,7 @@
 -- `start_fills::fill_trees` meets its contract: three fills, or one. Assumes nothing.
 use native.Mathlib.Omega.{arith}
 use borrow.Author.Needs.{needs}
-use Rattle.fills.specs.Fill.{all-filled, parts-filled}
+use Rattle.start_stores.specs.Fill.{all-filled, parts-filled}
 use Rattle.start_words.specs.Share.{tree-full, tree-held}
 use Rattle.start_fills.proofs.fill_trees.Statement.{statement}
 use Rattle.start_fills.proofs.fill_trees.Tie as tie

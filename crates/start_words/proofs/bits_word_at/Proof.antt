@@ -1,7 +1,7 @@
 -- `start_words::bits_word_at` meets its contract. Assumes nothing.
 use mathlib.Core.Path.{_≡_}
 use native.Mathlib.Omega.{arith}
-use Rattle.ways.specs.Calls.{freshWord}
+use Rattle.rules_calls.specs.Calls.{freshWord}
 use Rattle.start_words.specs.Share.{shl-some, word-part}
 use borrow.Author.Needs.{needs}
 use Rattle.start_words.proofs.bits_word_at.Statement.{statement}

@@ -1,5 +1,5 @@
 -- `start_words::tree_word_at` meets its contract. Assumes nothing.
-use Rattle.ways.specs.Calls.{freshTree}
+use Rattle.rules_calls.specs.Calls.{freshTree}
 use borrow.Author.Needs.{needs}
 use Rattle.start_words.proofs.tree_word_at.Statement.{statement}
 use Rattle.start_words.proofs.tree_word_at.Tie as tie

@@ -48,25 +48,25 @@ use Rattle.rules.specs.Words.{config}
 use Rattle.rules.specs.declared.Header.{Header}
 use Rattle.rules.proofs.Header as P
 use Rattle.rules.proofs.Header.Laws as P′
-use Rattle.ways.specs.Statistics.{toldTotals, statistics}
-use Rattle.ways.specs.declared.Tally.{Tally}
-use Rattle.ways.proofs.Tally as T
-use Rattle.ways.proofs.Tally.Laws as T′
-use Rattle.ways.specs.declared.Totals.{Totals}
-use Rattle.ways.proofs.Totals as S
-use Rattle.ways.proofs.Totals.Laws as S′
-use Rattle.tallies.specs.declared.Rows.{Rows}
-use Rattle.tallies.specs.Rows.{rowList, stores-all}
-use Rattle.tallies.proofs.Rows as R
-use Rattle.tallies.proofs.Rows.Laws as R′
-use Rattle.tells.specs.declared.Stats.{Stats}
-use Rattle.tells.specs.Stats.{statsOf, kept, full, filled}
-use Rattle.tells.proofs.Stats as Q
-use Rattle.tells.proofs.Stats.Laws as Q′
-use Rattle.tells.proofs.tell as g
-use Rattle.tells.proofs.tell.Symbol as g-def
-use Rattle.tells.proofs.tell.Symbol.{name as #tells·tell}
-use Rattle.tells.proofs.tell.Met as g-thm
+use Rattle.rules_calls.specs.Statistics.{toldTotals, statistics}
+use Rattle.rules_calls.specs.declared.Tally.{Tally}
+use Rattle.rules_calls.proofs.Tally as T
+use Rattle.rules_calls.proofs.Tally.Laws as T′
+use Rattle.rules_calls.specs.declared.Totals.{Totals}
+use Rattle.rules_calls.proofs.Totals as S
+use Rattle.rules_calls.proofs.Totals.Laws as S′
+use Rattle.stats_rows.specs.declared.Rows.{Rows}
+use Rattle.stats_rows.specs.Rows.{rowList, stores-all}
+use Rattle.stats_rows.proofs.Rows as R
+use Rattle.stats_rows.proofs.Rows.Laws as R′
+use Rattle.stats_told.specs.declared.Stats.{Stats}
+use Rattle.stats_told.specs.Stats.{statsOf, kept, full, filled}
+use Rattle.stats_told.proofs.Stats as Q
+use Rattle.stats_told.proofs.Stats.Laws as Q′
+use Rattle.stats_told.proofs.tell as g
+use Rattle.stats_told.proofs.tell.Symbol as g-def
+use Rattle.stats_told.proofs.tell.Symbol.{name as #stats-told·tell}
+use Rattle.stats_told.proofs.tell.Met as g-thm
 use Rattle.statistics.proofs.statistics.Key.{name as #statistics·statistics}
 use Rattle.statistics.proofs.statistics as f
 use Rattle.statistics.proofs.statistics.Statement as stated
@@ -263,7 +263,7 @@ module _ {M : Type 1} (𝓤 : URA M) (H : Heap 𝓤) (A : Atoms 𝓤) (W : Given
   left : (r : Stats) → r ≡ told → T (not (r .done)) → Said (r .totals) ys
   left r e n = subst (λ (z : Stats). T (not (z .done)) → Said (z .totals) ys) (sym e) (kept (config h (now tab)) (now trs) (now los) (now bis) ys) n
 
-  module _ (C : Calls 𝓤 H) (Λ : Loops 𝓤 H) (fm : FmC 𝓤 H (W .laws) C) (known : Triple 𝓤 (C #tells·tell) (Callee 𝓤 H A at-mem run)) where
+  module _ (C : Calls 𝓤 H) (Λ : Loops 𝓤 H) (fm : FmC 𝓤 H (W .laws) C) (known : Triple 𝓤 (C #stats-told·tell) (Callee 𝓤 H A at-mem run)) where
     walk : Is P.the-row h (head-vals h) → Is (table-row κ) tab (ptr-vals tab) → Is (ShrSlice (named 0) κ u32) trs (slice-vals trs) → Is (ShrSlice (named 0) κ u64) los (slice-vals los) → Is (ShrSlice (named 0) κ u64) bis (slice-vals bis)
         → Room T.the-row (length ys) → ent 𝓤 (onEntry 𝓤 H A f.signature (κ, (κ′, tt)) (q, (q′, tt)) x at) (WpFn 𝓤 H C Λ code.function given Post)
     walk gh gt gs gl gb gn =
@@ -367,7 +367,7 @@ module _ {M : Type 1} (𝓤 : URA M) (H : Heap 𝓤) (A : Atoms 𝓤) (W : Given
         keep ! (0 ∷ 1 ∷ 2 ∷ 4 ∷ 5 ∷ 6 ∷ 7 ∷ 8 ∷ 9 ∷ []) $ by ! (exits gn (r .totals) is ys refl (left r e not-yet)))))))))))))))))))))))))
 
 module _ {M : Type 1} (𝓤 : URA M) (H : Heap 𝓤) (A : Atoms 𝓤) (W : Given 𝓤 H A) (at-mem : Memory → SProp 𝓤) (run : Routine → Fun 𝓤) where
-  statistics-walks : (C : Calls 𝓤 H) (Λ : Loops 𝓤 H) → FmC 𝓤 H (W .laws) C → Triple 𝓤 (C #tells·tell) (Callee 𝓤 H A at-mem run)
+  statistics-walks : (C : Calls 𝓤 H) (Λ : Loops 𝓤 H) → FmC 𝓤 H (W .laws) C → Triple 𝓤 (C #stats-told·tell) (Callee 𝓤 H A at-mem run)
       → Walks 𝓤 H A f.ended stayed (WpFn 𝓤 H C Λ code.function) (f.clauses 𝓤 H A at-mem run)
   statistics-walks C Λ fm known = walked 𝓤 H A f.ended stayed (f.clauses 𝓤 H A at-mem run) (WpFn 𝓤 H C Λ code.function) (λ κs. (head-vals, (ptr-vals, (slice-vals, (slice-vals, (slice-vals, (slice-vals, tt)))))))
       (λ κs. (LL.tells P.the-type P′.the-laws, (shr-tells (named 0) (κs .0) (Array u32 64), (shr-slice-tells (named 0) (κs .0) u32, (shr-slice-tells (named 0) (κs .0) u64, (shr-slice-tells (named 0) (κs .0) u64, (mut-slice-tells (named 1) (κs .1 .0) T.the-row, tt)))))))
@@ -379,7 +379,7 @@ module _ {M : Type 1} (𝓤 : URA M) (H : Heap 𝓤) (A : Atoms 𝓤) (W : Given
   goes = (goes-none 𝓤 H A W 2 (λ _. P.the-row) yes (λ κs x f. refl), (goes-none-ref 𝓤 H A W 2 (0 ∷ []) tt (ArrayOf (plain (λ _. u32)) (λ _. tt) 64) yes, (goes-none-slice 𝓤 H A W 2 (0 ∷ []) tt (plain (λ _. u32)) yes, (goes-none-slice 𝓤 H A W 2 (0 ∷ []) tt (plain (λ _. u64)) yes, (goes-none-slice 𝓤 H A W 2 (0 ∷ []) tt (plain (λ _. u64)) yes, (goes-slice 𝓤 H A W 2 1 tt (plain (λ _. T.the-row)), tt))))))
 
 statistics-meets : {M : Type 1} (𝓤 : URA M) (H : Heap 𝓤) (A : Atoms 𝓤) (W : Given 𝓤 H A) (at-mem : Memory → SProp 𝓤) (run : Routine → Fun 𝓤) (𝓣 : Tables 𝓤 H)
-    → Triple 𝓤 (𝓣 .C #tells·tell) (Callee 𝓤 H A at-mem run)
+    → Triple 𝓤 (𝓣 .C #stats-told·tell) (Callee 𝓤 H A at-mem run)
     → Meets 𝓤 H A f.signature (WpFn 𝓤 H (𝓣 .C) (𝓣 .Λ) code.function) (f.spec 𝓤 H A at-mem run)
 statistics-meets 𝓤 H A W at-mem run 𝓣 known = walk-meets 𝓤 H A f.ended stayed W (goes 𝓤 H A W at-mem run) (f.clauses 𝓤 H A at-mem run) (WpFn 𝓤 H (𝓣 .C) (𝓣 .Λ) code.function) (WpFn-mono 𝓤 H (W .laws) 𝓣 code.function)
     (statistics-walks 𝓤 H A W at-mem run (𝓣 .C) (𝓣 .Λ) (fmOf 𝓤 H (W .laws) 𝓣) known)
@@ -390,4 +390,4 @@ statistics-spec 𝓤 H 𝓜 𝓖 𝓡 =
     entered 𝓤 H (tripleOf 𝓤 H (𝓖 .A) f.signature (f.spec 𝓤 H (𝓖 .A) (𝓜 .mem) (𝓡 .run)))
     (tables 𝓤 H 𝓜 𝓡 code.env .C) (tables 𝓤 H 𝓜 𝓡 code.env .Λ) #statistics·statistics code.function (code.unfolded 𝓤 H 𝓜 𝓡)
     (statistics-meets 𝓤 H (𝓖 .A) (givenOf 𝓤 H 𝓜 𝓖) (𝓜 .mem) (𝓡 .run) (tablesOf 𝓤 H 𝓜 (tables 𝓤 H 𝓜 𝓡 code.env))
-    (cited 𝓤 H (Callee 𝓤 H (𝓖 .A) (𝓜 .mem) (𝓡 .run)) 𝓜 𝓡 code.env #tells·tell g-def.routine code.calls-tells·tell (g-thm.met 𝓤 H 𝓜 𝓖 𝓡)))
+    (cited 𝓤 H (Callee 𝓤 H (𝓖 .A) (𝓜 .mem) (𝓡 .run)) 𝓜 𝓡 code.env #stats-told·tell g-def.routine code.calls-stats-told·tell (g-thm.met 𝓤 H 𝓜 𝓖 𝓡)))

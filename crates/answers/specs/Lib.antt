@@ -1,2 +1,0 @@
--- the text of each answer but a get's
-pub mod Answers

@@ -1,2 +1,0 @@
--- sums over the first trees and locals; the definitions are in `ways`
-pub mod Sums

@@ -1,3 +1,0 @@
--- laws of the argument tests, and of the tests of a get and of a put; the definitions are in `ways`
-pub mod Checked
-pub mod Refusals

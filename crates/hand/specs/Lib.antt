@@ -1,2 +1,0 @@
--- the standing rules with frames or reservations in hand
-pub mod Hand

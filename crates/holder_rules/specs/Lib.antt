@@ -1,2 +1,0 @@
--- laws that the proof goes by; the definitions are in `ways`
-pub mod Holder

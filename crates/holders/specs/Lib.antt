@@ -1,2 +1,0 @@
--- laws of the marks; the definitions are in `rules` and `ways`
-pub mod Apart

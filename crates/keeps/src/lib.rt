@@ -1,1 +1,0 @@
-// Every route of a get leaves the standing rules standing and is never stuck: in specs/. No function.

@@ -1,1 +1,0 @@
-// Every call leaves the standing rules standing: in specs/. No function.

@@ -1,5 +1,0 @@
--- the moves between states with something in hand
-pub mod Here
-pub mod Moves
-pub mod Entries
-pub mod Locals

@@ -1,1 +1,0 @@
-// The moves between states with something in hand: in specs/. No function.

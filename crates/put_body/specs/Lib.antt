@@ -1,0 +1,2 @@
+-- the ways of the frames of a put
+pub mod PutTo

@@ -1,2 +1,0 @@
--- the ways of the frames of a put
-pub mod To

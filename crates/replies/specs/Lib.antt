@@ -1,2 +1,0 @@
--- the text of a get's answer
-pub mod Replies

@@ -1,0 +1,2 @@
+-- the eight rows; the definitions are in `rules_calls`
+pub mod Rows

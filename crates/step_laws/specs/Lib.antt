@@ -1,8 +1,0 @@
--- one law for each step of a call: what holds of every way on, holds of the step
-pub mod Steps
-pub mod Ways
-pub mod Walks
-pub mod Payers
-pub mod Tested
-pub mod Checked
-pub mod Answers

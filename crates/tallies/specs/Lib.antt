@@ -1,2 +1,0 @@
--- the eight rows; the definitions are in `ways`
-pub mod Rows

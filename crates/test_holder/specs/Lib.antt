@@ -1,0 +1,2 @@
+-- laws that the proof goes by; the definitions are in `rules_calls`
+pub mod Holder

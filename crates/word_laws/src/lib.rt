@@ -1,1 +1,0 @@
-// Laws of words, of the tree order, of sums, of lists and of the places of locals: in specs/. No function.
