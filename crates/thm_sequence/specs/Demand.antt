@@ -139,7 +139,7 @@ givenBack z t (starts h pairs allFree ts ls bs r ∷ xs) = givenBack z t xs
 unfoldable pub inBlock : ℕ → ℕ → ℕ → Bool
 inBlock o f x = both (leb f x) (ltb x (f + 2 ^ o))
 
--- held by the ledger: at the start what is not free, frames past F too
+-- held by the ledger: at the start what is not free, frames at and past F too
 unfoldable pub heldAtStart : Bool → ℕ → ℕ → Bool
 heldAtStart allFree frames x = leb (freeAtStart allFree frames) x
 
@@ -217,7 +217,7 @@ NeverStuck = (h : Header) (pairs : List ℕ) (allFree : Bool) (s0 s e : Words) (
     → StartPromise h pairs allFree s0 r s → outcomeOf r ≡ 0 → NoRestart xs → Chain h pairs xs s e
     → NoneStuck xs
 
--- nor of a chain from any words that pass the state test, tree words being words of 32 bits
+-- of a chain from any words that pass the state test, tree words being words of 32 bits, no call is Broken or Stuck, and the words after it pass the test
 abbrev pub FromStanding : Type 0
 FromStanding = (h : Header) (pairs : List ℕ) (s e : Words) (xs : List Step)
     → standing (config h pairs) (s .trees) (s .locals) (s .bits) ≡ true → ((t : ℕ) → getD (s .trees) t 0 < 2 ^ 32)
@@ -237,7 +237,7 @@ LentLeft (puts f q r) = Unit {0}
 LentLeft (drains r) = Unit {0}
 LentLeft (starts h pairs allFree t l b r) = AsFound t × (AsFound l × AsFound b)
 
--- from any words: Done and Memory leave them as the rules say, Stuck as the route's last step left them, all others unchanged, and so is what else is lent
+-- from any words: Done and Memory leave the buffers as the rules say, Stuck as the step before left them (the promises say how); all others unchanged, and so is what else is lent
 abbrev pub OthersUnchanged : Type 0
 OthersUnchanged = (h : Header) (pairs : List ℕ) (x : Step) (s e : Words)
     → Promised h pairs x s e → (number x ≡ 0 → ⊥) → (number x ≡ 7 → ⊥) → (number x ≡ 9 → ⊥)

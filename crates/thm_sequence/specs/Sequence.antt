@@ -1,4 +1,4 @@
--- The theorems on chains of calls: demand 3, no call is Stuck, a refused call changes nothing. Assumes nothing.
+-- The theorems on chains of calls: demand 3, no call is Stuck, a call that is not Done, Memory or Stuck changes nothing. Assumes nothing.
 use mathlib.Core.Path.{_≡_, refl, sym, ap, _∙_, subst}
 use mathlib.Core.Bool.{Bool}
 use mathlib.Core.List.{List, [], _∷_}

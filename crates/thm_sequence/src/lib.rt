@@ -1,1 +1,1 @@
-// Demand 3, that no call sticks, and that a refused call changes nothing: statements and proofs are in specs/. No function.
+// Demand 3, that no call sticks, and which outcomes change nothing: statements and proofs are in specs/. No function.
