@@ -1,6 +1,8 @@
 // The boot loader: the firmware's first caller, and the example of how the library is called. It starts the store, takes the frames of the
 // boot patterns (crate `boot_shows`), gives them back, drains, and reports each answer. No refusal is passed over: the crate `boot_says` has what the
 // loader does on each, the module `refusals` a call for each but Stuck.
+#![tactic(auto)]
+
 mod refusals;
 
 ghost use Rattle.std.specs.Prelude.{◌≡◌};

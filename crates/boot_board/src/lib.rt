@@ -1,4 +1,6 @@
 // The board: the header and the policy table that the store is started with.
+#![tactic(auto)]
+
 ghost use Rattle.std.specs.Prelude.{◌≡◌, ℕ};
 ghost use Rattle.rules.specs.Words.{config};
 ghost use Rattle.boot_board.specs.Board.{board};

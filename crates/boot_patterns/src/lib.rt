@@ -1,4 +1,6 @@
 // The boot patterns: of each its frames, as which blocks, and for which class and local they are taken.
+#![tactic(auto)]
+
 ghost use Rattle.std.specs.Prelude.{◌≡◌, ◌+◌, ℕ, ◌*◌, ◌/◌, ◌%◌, ◌^◌, ◌<◌, ◌≤◌, eqb};
 ghost use Rattle.rules_calls.specs.Calls.{refusal};
 ghost use Rattle.boot_board.specs.Board.{board};
@@ -7,7 +9,7 @@ ghost use Rattle.boot_patterns.specs.Patterns.{frames_of};
 use rules::{Given, Request};
 
 // The picture and the two overlays that lie over it.
-#[derive(Drop)]
+#[derive(Clone, Copy)]
 pub enum Pattern {
     Raster,
     FirstOverlay,

@@ -1,4 +1,6 @@
 // What the loader says: a line for each answer, the figures, and what it does on each refusal.
+#![tactic(auto)]
+
 use boot_patterns::Pattern;
 use rules_calls::{Granted, Outcome, Reply, Tally};
 use stats_told::Stats;

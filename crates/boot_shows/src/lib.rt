@@ -1,4 +1,6 @@
 // The boot patterns on the store: a pattern's blocks are taken and given back, and it is held whole or not at all.
+#![tactic(auto)]
+
 ghost use Rattle.std.specs.Prelude.{◌≡◌, true};
 ghost use Rattle.boot_patterns.specs.Patterns.{frames_of};
 
@@ -8,7 +10,7 @@ use rules_calls::Granted;
 
 // What is held of a pattern: whether it is whole, and how many frames. The binary digits of that number are the orders of the blocks; the block
 // of an order begins at first[order].
-#[derive(Drop)]
+#[derive(Clone, Copy)]
 pub struct Held {
     pub whole: bool,
     pub frames: usize,

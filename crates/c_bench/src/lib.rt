@@ -1,4 +1,6 @@
 // Exported names for the bench alone: thin calls of single parts. The product's archive has none of them.
+#![tactic(auto)]
+
 use rules::{Found, Header, Name};
 
 // The clear bits of the whole trees of a bitmap.

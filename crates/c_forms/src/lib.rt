@@ -1,4 +1,6 @@
 // What C hands in and gets back, by value: arguments as the rules' own, and statistics in numbers.
+#![tactic(auto)]
+
 ghost use Rattle.std.specs.Prelude.{◌≡◌};
 ghost use Rattle.c_forms.specs.Args.{name_of, given_of, asking};
 ghost use Rattle.c_forms.specs.Summary.{summary_of};
@@ -8,7 +10,7 @@ use rules_calls::Totals;
 
 // What statistics answer beside the lent rows: the number, total free, free trees.
 #[repr(C)]
-#[derive(Drop)]
+#[derive(Clone, Copy)]
 pub struct Summary {
     pub number: usize,
     pub free: usize,

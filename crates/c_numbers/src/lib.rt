@@ -1,4 +1,6 @@
 // Answers in numbers: the number of an outcome in document 01, and what a get answers.
+#![tactic(auto)]
+
 ghost use Rattle.std.specs.Prelude.{◌≡◌, List, ℕ};
 ghost use Rattle.rules_calls.specs.State.{st};
 ghost use Rattle.rules_calls.specs.Calls.{number_of, outcome_of, telling, told_get};
@@ -36,7 +38,7 @@ pub fn number(o: Outcome) -> usize
 
 // What a get answers: the number, the frame and the class (0 and 0 where it is refused), and the counts.
 #[repr(C)]
-#[derive(Drop)]
+#[derive(Clone, Copy)]
 pub struct Answer {
     pub number: usize,
     pub frame: usize,

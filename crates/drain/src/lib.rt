@@ -1,4 +1,6 @@
 // Drain, the exported call: the state test and the body. It answers with a number of document 01 on any table, header, lengths and words.
+#![tactic(auto)]
+
 ghost use Rattle.rules_calls.specs.Promises.{words, DrainPromise};
 
 use rules::Header;

@@ -1,4 +1,6 @@
 // What a drain does once the state test has passed: by class, then index, each reservation is unreserved.
+#![tactic(auto)]
+
 ghost use Rattle.std.specs.Prelude.{◌≡◌, List, ℕ, ◌<◌};
 ghost use Rattle.rules.specs.Base.{out};
 ghost use Rattle.rules.specs.Words.{config, locals_of};

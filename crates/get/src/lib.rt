@@ -1,4 +1,6 @@
 // Get, the exported call: the state test, the argument tests, the routes. It answers with a number of document 01 on any arguments, table, header, lengths and words.
+#![tactic(auto)]
+
 ghost use Rattle.rules_calls.specs.Promises.{words, GetPromise};
 
 use rules::{Header, Name, Request};

@@ -1,4 +1,6 @@
 // How a get is answered.
+#![tactic(auto)]
+
 ghost use Rattle.std.specs.Prelude.{◌≡◌, List, ℕ};
 ghost use Rattle.rules_calls.specs.declared.Granted.TheVariants as Granted;
 ghost use Rattle.rules_calls.specs.State.{ended};

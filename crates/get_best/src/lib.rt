@@ -1,4 +1,6 @@
 // The list of the best trees of a walk, by value: what it is ordered by, and a tree admitted to it.
+#![tactic(auto)]
+
 ghost use Rattle.std.specs.Prelude.{◌≡◌, ◌+◌, ◌*◌, ◌^◌, ◌<◌, ◌≤◌, eqb};
 ghost use Rattle.rules.specs.Base.{bit_of};
 ghost use Rattle.rules_calls.specs.Walking.{admit};

@@ -1,4 +1,6 @@
 // llfree.rs, demote_local: a reservation of another class moves to the given local, or is returned.
+#![tactic(auto)]
+
 ghost use Rattle.std.specs.Prelude.{◌≡◌, ◌+◌, ◌^◌, ◌<◌, ◌≤◌};
 ghost use Rattle.rules.specs.Words.{config};
 ghost use Rattle.rules_calls.specs.State.{st, ended};

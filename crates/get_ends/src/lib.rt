@@ -1,4 +1,6 @@
 // How a route ends: a frame, empty, empty with a present own reservation, stuck; with the counts as given. And which ends are the last.
+#![tactic(auto)]
+
 ghost use Rattle.std.specs.Prelude.{◌≡◌, List, ℕ};
 ghost use Rattle.rules_calls.specs.State.{st, ended, done, missed, missed_at, stuck};
 ghost use Rattle.get_ends.specs.Ends.{ends};

@@ -1,4 +1,6 @@
 // llfree.rs, steal_local: another local pays. And the last routes of a get: steal from locals, then demote.
+#![tactic(auto)]
+
 ghost use Rattle.std.specs.Prelude.{◌≡◌, ◌+◌, ◌≤◌};
 ghost use Rattle.rules.specs.Words.{config};
 ghost use Rattle.rules_calls.specs.State.{st, ended};

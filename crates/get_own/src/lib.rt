@@ -1,4 +1,6 @@
 // llfree.rs, get_local: from a local. Taking from a local and topping it up call on each other; syncs left falls from 1 to 0.
+#![tactic(auto)]
+
 ghost use Rattle.std.specs.Prelude.{◌≡◌, ◌+◌, ◌^◌, ◌<◌, ◌≤◌};
 ghost use Rattle.rules.specs.Words.{config};
 ghost use Rattle.rules_calls.specs.State.{st, ended, index_of};

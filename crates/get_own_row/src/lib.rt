@@ -1,4 +1,6 @@
 // llfree.rs, get_local: the lower is asked at the row of the own local, which has paid.
+#![tactic(auto)]
+
 ghost use Rattle.std.specs.Prelude.{◌≡◌, ◌+◌, ◌≤◌};
 ghost use Rattle.rules.specs.Words.{config};
 ghost use Rattle.rules_calls.specs.State.{st, ended};

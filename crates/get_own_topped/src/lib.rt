@@ -1,4 +1,6 @@
 // llfree.rs, get_local: the own local is topped up with the frames of its tree's entry.
+#![tactic(auto)]
+
 ghost use Rattle.std.specs.Prelude.{◌≡◌, List, ℕ, ◌<◌};
 ghost use Rattle.rules.specs.Base.{out};
 ghost use Rattle.rules.specs.Words.{config};

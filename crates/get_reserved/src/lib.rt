@@ -1,4 +1,6 @@
 // A tree that was reserved: the lower is asked, and the reservation stored in a local, or undone.
+#![tactic(auto)]
+
 ghost use Rattle.std.specs.Prelude.{◌≡◌, List, ℕ, ◌+◌, ◌*◌, ◌^◌, ◌<◌, ◌≤◌};
 ghost use Rattle.rules.specs.Base.{ifte};
 ghost use Rattle.rules.specs.Words.{config};

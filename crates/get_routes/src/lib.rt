@@ -1,4 +1,6 @@
 // llfree.rs, get: the routes of a get in their order.
+#![tactic(auto)]
+
 ghost use Rattle.std.specs.Prelude.{◌≡◌, List, ℕ, ◌*◌, ◌/◌, ◌^◌, ◌<◌, ◌≤◌};
 ghost use Rattle.rules.specs.Words.{config};
 ghost use Rattle.rules.specs.declared.Given.TheVariants as Given;

@@ -1,4 +1,6 @@
 // llfree.rs: the reserving search and the stealing search.
+#![tactic(auto)]
+
 ghost use Rattle.std.specs.Prelude.{◌≡◌, ◌+◌, ◌^◌, ◌<◌, ◌≤◌};
 ghost use Rattle.rules.specs.Words.{config, tree_count};
 ghost use Rattle.rules_calls.specs.State.{st, ended};

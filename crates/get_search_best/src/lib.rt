@@ -1,4 +1,6 @@
 // llfree.rs and trees.rs, search_best: a walk over the trees, what is tried at once, and then the list of the best.
+#![tactic(auto)]
+
 ghost use Rattle.std.specs.Prelude.{◌≡◌, ◌+◌, ◌^◌, ◌<◌, ◌≤◌};
 ghost use Rattle.rules.specs.Words.{config};
 ghost use Rattle.rules_calls.specs.State.{st, ended};

@@ -1,4 +1,6 @@
 // What several routes do: read the given index, ask the lower for frames that were taken.
+#![tactic(auto)]
+
 ghost use Rattle.std.specs.Prelude.{◌≡◌, List, ℕ, ◌+◌, ◌/◌, ◌≤◌};
 ghost use Rattle.rules.specs.Words.{config};
 ghost use Rattle.rules_calls.specs.State.{st, ended, index_of, ask_lower};

@@ -1,4 +1,6 @@
 // llfree.rs: frames of one tree: steal them from its entry, or reserve it; then ask the lower.
+#![tactic(auto)]
+
 ghost use Rattle.std.specs.Prelude.{◌≡◌, ℕ, ◌+◌, ◌^◌, ◌<◌, ◌≤◌};
 ghost use Rattle.rules.specs.Base.{ifte};
 ghost use Rattle.rules.specs.Words.{Config, config};

@@ -1,4 +1,6 @@
 // llfree.rs and trees.rs, search_best: a walk over the trees, as far as the next that is tried at once.
+#![tactic(auto)]
+
 ghost use Rattle.std.specs.Prelude.{◌≡◌, eqb, ◌-◌, ◌^◌, ◌<◌, ◌≤◌};
 ghost use Rattle.test_fits.specs.Room.{Room};
 ghost use Rattle.get_best.specs.List.{list_of};
@@ -8,7 +10,7 @@ use rules::Request;
 use rules_calls::Walk;
 
 // A walk: the length of its list, the number of trees, the start, the steps from the first up to the last.
-#[derive(Drop)]
+#[derive(Clone, Copy)]
 pub struct Path {
     pub m: usize,
     pub n: usize,
@@ -18,7 +20,7 @@ pub struct Path {
 }
 
 // Where a walk stands: the step, the list of the best, the looks.
-#[derive(Drop)]
+#[derive(Clone, Copy)]
 pub struct Stand {
     pub at: usize,
     pub best: [u64; 8],

@@ -1,4 +1,6 @@
 // The trees of a walk: how far near is, where a reserving search begins, which tree each step visits.
+#![tactic(auto)]
+
 ghost use Rattle.std.specs.Prelude.{◌≡◌, ◌%◌, ◌^◌, ◌<◌, ◌≤◌};
 ghost use Rattle.rules_calls.specs.Search.{near, rounded_start};
 ghost use Rattle.rules_calls.specs.Walking.{walk_tree};

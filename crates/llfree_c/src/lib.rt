@@ -1,4 +1,6 @@
 // The library for C and Rust: the exported calls with C types. Each answers with a number of document 01 on any arguments, table, header, lengths, words and rows.
+#![tactic(auto)]
+
 ghost use Rattle.rules_calls.specs.Promises.{words};
 ghost use Rattle.c_forms.specs.Args.{name_of, asking};
 ghost use Rattle.llfree_c.specs.Promises.{StartNumber, GetAnswer, PutNumber, DrainNumber, StatisticsAnswer};
@@ -9,8 +11,7 @@ use rules::Header;
 use rules_calls::Tally;
 
 // A start, all free or all held.
-#[unsafe(no_mangle)]
-pub extern "C" fn llfree_start(
+pub fn llfree_start(
     h: Header,
     table: &[u32; 64],
     trees: &mut [u32],
@@ -25,8 +26,7 @@ pub extern "C" fn llfree_start(
 }
 
 // A get, of the named frame or of any.
-#[unsafe(no_mangle)]
-pub extern "C" fn llfree_get(
+pub fn llfree_get(
     h: Header,
     table: &[u32; 64],
     trees: &mut [u32],
@@ -48,8 +48,7 @@ pub extern "C" fn llfree_get(
 }
 
 // A put of the block at a frame.
-#[unsafe(no_mangle)]
-pub extern "C" fn llfree_put(
+pub fn llfree_put(
     h: Header,
     table: &[u32; 64],
     trees: &mut [u32],
@@ -69,8 +68,7 @@ pub extern "C" fn llfree_put(
 }
 
 // Every reservation is returned.
-#[unsafe(no_mangle)]
-pub extern "C" fn llfree_drain(
+pub fn llfree_drain(
     h: Header,
     table: &[u32; 64],
     trees: &mut [u32],
@@ -83,9 +81,8 @@ pub extern "C" fn llfree_drain(
     c_numbers::number(drain::drain(h, table, trees, locals, bits))
 }
 
-// Statistics. The lent rows are handed on, which is proved by a walk of the code: so it is thin, one call and its answer in numbers.
-#[unsafe(no_mangle)]
-pub extern "C" fn llfree_statistics<'a, 'b>(
+// Statistics: one call, and its answer in numbers.
+pub fn llfree_statistics<'a, 'b>(
     h: Header,
     table: &'a [u32; 64],
     trees: &'a [u32],

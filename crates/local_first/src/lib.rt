@@ -1,4 +1,6 @@
 // The first local of a class that has enough, from the given index round. Reads the lent words, stores none.
+#![tactic(auto)]
+
 ghost use Rattle.std.specs.Prelude.{◌≡◌, ◌+◌, ◌^◌, ◌<◌, eqb};
 ghost use Rattle.rules.specs.Base.{pick};
 ghost use Rattle.rules.specs.Locals.{has_enough};

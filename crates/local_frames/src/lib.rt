@@ -1,4 +1,6 @@
 // Frames leave a local of the lent words, or come to it. Total: a local that is not there reads as absent, and a store to it does nothing.
+#![tactic(auto)]
+
 ghost use Rattle.std.specs.Prelude.{◌≡◌, true, ◌^◌, ◌<◌};
 ghost use Rattle.rules.specs.Base.{out};
 ghost use Rattle.rules.specs.Words.{local_at};

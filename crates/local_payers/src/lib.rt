@@ -1,4 +1,6 @@
 // Which local pays: the first that has enough, over the classes from the requested one on that may (crate `word_policy`). Reads the lent words, stores none.
+#![tactic(auto)]
+
 ghost use Rattle.std.specs.Prelude.{◌≡◌, ◌-◌, ◌<◌};
 ghost use Rattle.rules.specs.Base.{pick};
 ghost use Rattle.rules.specs.Words.{config};

@@ -1,4 +1,6 @@
 // The lent words of the locals: one read and stored, changed as a whole (another row, another local, absent); and whether a row lies in the named frame's tree. Total: a local that is not there reads as absent, and a store to it does nothing.
+#![tactic(auto)]
+
 ghost use Rattle.std.specs.Prelude.{◌≡◌, ◌^◌, ◌<◌, get_or, set};
 ghost use Rattle.rules.specs.Words.{local_at};
 ghost use Rattle.rules.specs.Locals.{in_tree, local_row, local_swap, local_clear};

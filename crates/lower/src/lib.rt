@@ -1,4 +1,6 @@
 // The lower: what a get finds in the bitmap and takes, what a put gives back. 32 words a tree, bit i of word w is frame 64 w + i, 1 means held.
+#![tactic(auto)]
+
 ghost use Rattle.std.specs.Prelude.{◌≡◌, ◌≤◌};
 ghost use Rattle.rules.specs.Base.{out};
 ghost use Rattle.rules.specs.Lower.{has_tree, lower_find, lower_get, lower_put};

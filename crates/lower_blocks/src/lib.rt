@@ -1,4 +1,6 @@
 // Whether a block of the bitmap, or of one word, is wholly free or wholly held.
+#![tactic(auto)]
+
 ghost use Rattle.std.specs.Prelude.{◌≡◌, ◌+◌, ◌*◌, ◌/◌, ◌%◌, ◌^◌, ◌<◌, ◌≤◌, length, eqb};
 ghost use Rattle.rules.specs.Lower.{held, held_in};
 ghost use Rattle.law_rules.specs.Block.{Block};

@@ -1,4 +1,6 @@
 // A block of the bitmap becomes held or free: a part of a word, or whole words.
+#![tactic(auto)]
+
 ghost use Rattle.std.specs.Prelude.{◌≡◌, true, false, ◌+◌, ◌-◌, ◌/◌, ◌%◌, ◌^◌, ◌<◌, ◌≤◌, length};
 ghost use Rattle.rules.specs.Lower.{put_field, mark, set_words, held_in};
 ghost use Rattle.law_rules.specs.Block.{Block};

@@ -1,4 +1,6 @@
 // The first wholly free block within one word of the bitmap, a row: by its lowest clear bit, or by halves.
+#![tactic(auto)]
+
 ghost use Rattle.std.specs.Prelude.{◌≡◌, ◌<◌, ◌≤◌};
 ghost use Rattle.law_rules.specs.Block.{Block};
 ghost use Rattle.law_rules.specs.Seek.{seek_in};

@@ -1,4 +1,6 @@
 // The first wholly free block of a tree, sought by halves upward from a row, then from the tree's first.
+#![tactic(auto)]
+
 ghost use Rattle.std.specs.Prelude.{◌≡◌, ◌-◌, ◌*◌, ◌/◌, ◌^◌, ◌≤◌};
 ghost use Rattle.rules.specs.Lower.{search_in};
 ghost use Rattle.law_rules.specs.Block.{Block};

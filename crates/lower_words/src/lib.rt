@@ -1,4 +1,6 @@
 // The bitmap's words, counted and passed over: 32 words a tree, bit i of word w is frame 64 w + i, 1 means held.
+#![tactic(auto)]
+
 ghost use Rattle.std.specs.Prelude.{◌≡◌, ◌+◌, ◌-◌, ◌*◌, ◌≤◌, length, eqb};
 ghost use Rattle.rules.specs.Lower.{held, clear};
 ghost use Rattle.law_rules.specs.Open.{open_from};

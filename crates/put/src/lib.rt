@@ -1,4 +1,6 @@
 // Put, the exported call: the state test, the argument tests, the body. It answers with a number of document 01 on any arguments, table, header, lengths and words.
+#![tactic(auto)]
+
 ghost use Rattle.rules_calls.specs.Promises.{words, PutPromise};
 
 use rules::{Header, Request};

@@ -1,7 +1,8 @@
 // The types that the rules and the code share. No function: the definitions are in specs/.
+#![tactic(auto)]
 
 // What the policy says of a pair of classes.
-#[derive(Drop)]
+#[derive(Clone, Copy)]
 pub enum Kind {
     Invalid,
     Steal,
@@ -10,7 +11,7 @@ pub enum Kind {
 }
 
 // A tree's word taken apart.
-#[derive(Drop)]
+#[derive(Clone, Copy)]
 pub struct Tree {
     pub free: usize,
     pub reserved: bool,
@@ -18,7 +19,7 @@ pub struct Tree {
 }
 
 // A local's word taken apart.
-#[derive(Drop)]
+#[derive(Clone, Copy)]
 pub struct Local {
     pub row: usize,
     pub free: usize,
@@ -27,7 +28,7 @@ pub struct Local {
 
 // The header: frames, default class, and for each class its place: 0 where it is unconfigured, else its number of locals plus one.
 #[repr(C)]
-#[derive(Drop)]
+#[derive(Clone, Copy)]
 pub struct Header {
     pub frames: usize,
     pub default: usize,
@@ -35,28 +36,28 @@ pub struct Header {
 }
 
 // A number, if there is one: of a block, a frame, a local.
-#[derive(Drop)]
+#[derive(Clone, Copy)]
 pub enum Found {
     At(usize),
     Nothing,
 }
 
 // The frame that a get names, or none.
-#[derive(Drop)]
+#[derive(Clone, Copy)]
 pub enum Name {
     Any,
     Frame(usize),
 }
 
 // The local that a call gives, by its index in the class, or none.
-#[derive(Drop)]
+#[derive(Clone, Copy)]
 pub enum Given {
     Local(usize),
     Nothing,
 }
 
 // What a get or a put asks for, beside its frame.
-#[derive(Drop)]
+#[derive(Clone, Copy)]
 pub struct Request {
     pub order: usize,
     pub class: usize,
@@ -64,14 +65,14 @@ pub struct Request {
 }
 
 // What an operation on an entry answers: refused, or the new entry.
-#[derive(Drop)]
+#[derive(Clone, Copy)]
 pub enum Took {
     No,
     Yes(Tree),
 }
 
 // What a reserve or steal answers: refused, stolen in part, or reserved whole, with the frames that the entry had.
-#[derive(Drop)]
+#[derive(Clone, Copy)]
 pub enum Taken {
     No,
     Part(Tree),
@@ -79,14 +80,14 @@ pub enum Taken {
 }
 
 // What a sync answers: the frames of the entry, or nothing.
-#[derive(Drop)]
+#[derive(Clone, Copy)]
 pub enum Synced {
     Free(u32),
     Nothing,
 }
 
 // What a local answers to a request: paid, at its row; too few, or another tree; absent.
-#[derive(Drop)]
+#[derive(Clone, Copy)]
 pub enum Held {
     Row(usize),
     Few { row: usize, free: usize },
@@ -94,7 +95,7 @@ pub enum Held {
 }
 
 // The local that pays, by its class and its slot in the lent words.
-#[derive(Drop)]
+#[derive(Clone, Copy)]
 pub enum Payer {
     Nobody,
     Local { class: usize, slot: usize },

@@ -1,7 +1,8 @@
 // The types of routes and answers that the rules and the code share. No function: the definitions are in specs/.
+#![tactic(auto)]
 
 // How a route ends: a frame, for a class; empty; empty, with a present own reservation on a tree; stuck at a return of a reservation.
-#[derive(Drop)]
+#[derive(Clone, Copy)]
 pub enum Got {
     Done { frame: usize, class: usize },
     Missed,
@@ -10,7 +11,7 @@ pub enum Got {
 }
 
 // How a route ends, and the counts: looks (entries read by walks) and tries (lower calls).
-#[derive(Drop)]
+#[derive(Clone, Copy)]
 pub struct Routed {
     pub got: Got,
     pub looks: usize,
@@ -18,7 +19,7 @@ pub struct Routed {
 }
 
 // The walks of the searches: reserving near, reserving far, stealing.
-#[derive(Drop)]
+#[derive(Clone, Copy)]
 pub enum Walk {
     Near,
     Far,
@@ -26,7 +27,7 @@ pub enum Walk {
 }
 
 // The refusals, in document 01's order.
-#[derive(Drop)]
+#[derive(Clone, Copy)]
 pub enum Refusal {
     Broken,
     Order,
@@ -42,21 +43,21 @@ pub enum Refusal {
 }
 
 // What a start, a put or a drain answers.
-#[derive(Drop)]
+#[derive(Clone, Copy)]
 pub enum Outcome {
     Done,
     Refused(Refusal),
 }
 
 // What a get answers: a refused one names no frame and no class.
-#[derive(Drop)]
+#[derive(Clone, Copy)]
 pub enum Granted {
     Done { frame: usize, class: usize },
     Refused(Refusal),
 }
 
 // A get's answer, and its counts.
-#[derive(Drop)]
+#[derive(Clone, Copy)]
 pub struct Reply {
     pub granted: Granted,
     pub looks: usize,
@@ -65,7 +66,7 @@ pub struct Reply {
 
 // A row of the statistics: the source's free and allocated frames, and the added column, frames in use.
 #[repr(C)]
-#[derive(Drop)]
+#[derive(Clone, Copy)]
 pub struct Tally {
     pub free: usize,
     pub alloc: usize,
@@ -73,7 +74,7 @@ pub struct Tally {
 }
 
 // What statistics answer: the outcome, total free, free trees.
-#[derive(Drop)]
+#[derive(Clone, Copy)]
 pub struct Totals {
     pub outcome: Outcome,
     pub free: usize,

@@ -1,1 +1,2 @@
 // Worked cases of the definitions: in specs/. No function.
+#![tactic(auto)]

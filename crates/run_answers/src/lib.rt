@@ -1,4 +1,6 @@
 // The answers to the calls, and to lines that are no command, written into a buffer.
+#![tactic(auto)]
+
 ghost use Rattle.std.specs.Prelude.{◌≡◌};
 ghost use Rattle.text_bytes.specs.Text.{text, write};
 ghost use Rattle.run_answers.specs.GetText.{granted_text, reply_text};

@@ -1,4 +1,6 @@
 // The calls that lines name, on the words lent, and their answers written into a buffer.
+#![tactic(auto)]
+
 use rules::Header;
 use rules_calls::{Outcome, Reply};
 use run_commands::Call;
@@ -6,7 +8,7 @@ use run_store::Setup;
 use stats_told::Stats;
 
 // What a call answered.
-#[derive(Drop)]
+#[derive(Clone, Copy)]
 enum Answered {
     Start(Outcome),
     Get(Reply),

@@ -1,11 +1,13 @@
 // The commands of the line form, each read from the words after its name. No function asks more of its arguments than their types.
+#![tactic(auto)]
+
 ghost use Rattle.std.specs.Prelude.{◌+◌};
 
 use rules::{Given, Name, Request};
 use run_lines::{Arg, Args};
 
 // A line that sets the header, or what is lent. A length lent is held plus one; 0 is the exact one.
-#[derive(Drop)]
+#[derive(Clone, Copy)]
 pub enum Setting {
     Frames(usize),
     Default(usize),
@@ -22,7 +24,7 @@ pub enum Setting {
 }
 
 // A line that stores words.
-#[derive(Drop)]
+#[derive(Clone, Copy)]
 pub enum Store {
     Pair {
         at: usize,
@@ -48,7 +50,7 @@ pub enum Store {
 }
 
 // A call of the allocator.
-#[derive(Drop)]
+#[derive(Clone, Copy)]
 pub enum Call {
     Start(bool),
     Get { name: Name, q: Request },
@@ -58,7 +60,7 @@ pub enum Call {
 }
 
 // A line that only looks.
-#[derive(Drop)]
+#[derive(Clone, Copy)]
 pub enum Show {
     Dump,
     Sum,
@@ -66,7 +68,7 @@ pub enum Show {
 }
 
 // What a line says: nothing, no command, or one of the four kinds.
-#[derive(Drop)]
+#[derive(Clone, Copy)]
 pub enum Command {
     Nothing,
     Wrong,

@@ -1,4 +1,6 @@
 // The words lent as lines that store them, and their sums.
+#![tactic(auto)]
+
 ghost use Rattle.std.specs.Prelude.{◌<◌};
 
 // A word, if it is not 0, as the line that stores it.

@@ -1,12 +1,14 @@
 // The input's lines, and where the run stands in them and in the answers: 65,536 bytes of input, 262,144 of answers.
+#![tactic(auto)]
+
 ghost use Rattle.std.specs.Prelude.{◌+◌, ◌<◌};
 
-use libc::STDIN_FILENO;
 use run_commands::Command;
+use std::io::Read;
 use text_prints::Program;
 
 // Where the run stands: the next line's place in the input, the bytes there, the lines counted, whether a line too long is passed over, whether the input has ended, the answers' bytes not yet written, and whether all is done.
-#[derive(Drop)]
+#[derive(Clone, Copy)]
 pub struct Run {
     pub from: usize,
     pub have: usize,
@@ -166,18 +168,20 @@ fn left_over(buf: &mut [u8], r: Run) -> usize {
     run_lines::keep(buf, r.from, r.have)
 }
 
-// One read into the input from `left` on: how many bytes came.
-fn read(buf: &mut [u8], left: usize) -> usize {
+// One read into the input from `left` on: how many bytes came, 0 where it failed.
+fn read(rt: &impl Input, buf: &mut [u8], left: usize) -> usize {
     if left >= buf.len() {
         return 0;
     }
-    let got = libc::read(STDIN_FILENO, &mut buf[left..]);
-    io::count(got, &buf[left..])
+    match rt.reader().read(&mut buf[left..]) {
+        Ok(n) => n,
+        Err(_) => 0,
+    }
 }
 
 // The run after a read behind the `left` bytes of an unfinished line.
-fn after_read(buf: &mut [u8], left: usize, r: Run) -> Run {
-    let n = read(buf, left);
+fn after_read(rt: &impl Input, buf: &mut [u8], left: usize, r: Run) -> Run {
+    let n = read(rt, buf, left);
     if n == 0 {
         return last_line(buf, left, r);
     }
@@ -185,14 +189,14 @@ fn after_read(buf: &mut [u8], left: usize, r: Run) -> Run {
 }
 
 // More input, once the answers are written.
-pub fn more(buf: &mut [u8; 65536], r: Run, out: &mut [u8; 262144]) -> Run {
+pub fn more(rt: &impl Input, buf: &mut [u8; 65536], r: Run, out: &mut [u8; 262144]) -> Run {
     text_prints::front(Program::Runner, out, r.at);
     if r.ended {
         return with_input(r, 0, true, true);
     }
     let left = left_over(buf, r);
     if left < 65536 {
-        return after_read(buf, left, r);
+        return after_read(rt, buf, left, r);
     }
     let number = std::num::wrapping_add_u64(r.number, 1);
     say_wrong(buf, number, out);

@@ -1,4 +1,6 @@
 // The words of a line: names, numbers and `-`; and the lines of a buffer. No exported function asks more of its arguments than their types.
+#![tactic(auto)]
+
 mod buffer;
 
 ghost use Rattle.std.specs.Prelude.{◌+◌, ◌<◌, ◌≤◌, length};
@@ -6,7 +8,7 @@ ghost use Rattle.std.specs.Prelude.{◌+◌, ◌<◌, ◌≤◌, length};
 pub use buffer::{keep, line_end};
 
 // A word of a line, by its kind: 0 none is left, 1 `-`, 2 a number, 3 something else.
-#[derive(Drop)]
+#[derive(Clone, Copy)]
 pub struct Arg {
     pub kind: usize,
     pub value: u64,
@@ -26,7 +28,7 @@ fn number(v: u64) -> Arg {
 }
 
 // A word, and the place past it.
-#[derive(Drop)]
+#[derive(Clone, Copy)]
 struct Read {
     kind: usize,
     value: u64,
@@ -42,7 +44,7 @@ fn arg_of(r: Read) -> Arg {
 }
 
 // The words after a command's name; a seventh is too many for every command.
-#[derive(Drop)]
+#[derive(Clone, Copy)]
 pub struct Args {
     pub a: Arg,
     pub b: Arg,
@@ -87,7 +89,7 @@ fn wide(x: u8) -> u64
 }
 
 // A number with a digit more, where that fits 64 bits.
-#[derive(Drop)]
+#[derive(Clone, Copy)]
 enum Grown {
     To(u64),
     Past,

@@ -1,4 +1,6 @@
 // A line read into a command: its name says which. No function asks more of its arguments than their types.
+#![tactic(auto)]
+
 ghost use Rattle.std.specs.Prelude.{◌<◌};
 
 use run_commands::{Call, Command, Show};

@@ -1,4 +1,6 @@
 // What lines that only look answer: the words lent as lines, their sums, and the picture.
+#![tactic(auto)]
+
 use rules::Header;
 use run_commands::Show;
 use run_store::Setup;

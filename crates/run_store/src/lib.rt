@@ -1,11 +1,13 @@
 // The runner's store: what a line sets, the words that it stores, and the lengths that are lent.
+#![tactic(auto)]
+
 ghost use Rattle.std.specs.Prelude.{◌≤◌};
 
 use rules::Header;
 use run_commands::{Command, Setting, Store};
 
 // What set-up lines set, the store but its words: the header, the lengths lent (plus one; 0 is the exact one), and the tally rows lent.
-#[derive(Drop)]
+#[derive(Clone, Copy)]
 pub struct Setup {
     pub h: Header,
     pub trees: usize,

@@ -1,4 +1,6 @@
 // FNV-1a, 64 bit, over words taken as their bytes, lowest first.
+#![tactic(auto)]
+
 ghost use Rattle.std.specs.Prelude.{◌≡◌, ◌*◌, ◌%◌, ◌^◌};
 ghost use Rattle.run_sums.specs.Fnv.{basis, fnv_byte, fnv_word, fnv_from};
 

@@ -1,4 +1,6 @@
 // The line runner: reads lines from standard input, makes the calls that they name on one store, and writes the answers to standard output.
+#![tactic(auto)]
+
 use run_commands::Command;
 use run_input::Run;
 use run_store::Setup;
@@ -29,7 +31,7 @@ fn obey(
 }
 
 // A proved loop has to end, and nothing says that the input does: the count of turns falls. A turn is one line, or one read.
-fn main() {
+fn main(rt: HostRuntime) {
     let mut table = [0u32; 64];
     let mut trees = [0u32; 200];
     let mut locals = [0u64; 256];
@@ -57,7 +59,7 @@ fn main() {
             setup = run_store::after(setup, c);
             r = run_input::past(r, e, to);
         } else {
-            r = run_input::more(&mut buf, r, &mut out);
+            r = run_input::more(&rt, &mut buf, r, &mut out);
             if r.done {
                 return;
             }

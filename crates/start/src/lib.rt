@@ -1,4 +1,6 @@
 // Start, the exported call: header, table and lengths are tested, then all words are set. It answers with a number of document 01 on any arguments, table, header, lengths and words.
+#![tactic(auto)]
+
 ghost use Rattle.rules_calls.specs.Promises.{words, StartPromise};
 
 use rules::Header;

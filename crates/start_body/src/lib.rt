@@ -1,4 +1,6 @@
 // What a start writes once its test has passed: every word of the lent buffers.
+#![tactic(auto)]
+
 ghost use Rattle.std.specs.Prelude.{◌≡◌, List, ℕ, ◌*◌, ◌^◌, ◌≤◌, length};
 ghost use Rattle.rules.specs.Words.{config, tree_count, local_count};
 ghost use Rattle.rules_calls.specs.Calls.{fresh, free_at_start, fresh_state};

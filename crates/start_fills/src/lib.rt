@@ -1,4 +1,6 @@
 // Every word of a lent buffer, as a start writes it: tree words, local words, bitmap words.
+#![tactic(auto)]
+
 ghost use Rattle.std.specs.Prelude.{◌≡◌, ◌^◌, ◌<◌, length};
 ghost use Rattle.rules.specs.Base.{listed};
 ghost use Rattle.rules_calls.specs.Calls.{fresh_tree, fresh_word};

@@ -1,4 +1,6 @@
 // A word stored into lent words from one place up to another.
+#![tactic(auto)]
+
 ghost use Rattle.std.specs.Prelude.{◌≤◌, length};
 ghost use Rattle.start_stores.specs.Fill.{Filled};
 

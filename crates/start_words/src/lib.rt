@@ -1,4 +1,6 @@
 // The words of a start by value: the frames of a part, the word of a tree, the word of the bitmap.
+#![tactic(auto)]
+
 ghost use Rattle.std.specs.Prelude.{◌≡◌, ◌-◌, ◌*◌, ◌^◌, ◌<◌, ◌≤◌};
 ghost use Rattle.rules_calls.specs.Calls.{at_most, fresh_tree, fresh_word};
 

@@ -1,10 +1,12 @@
 // Statistics, the exported call: it is told by value, and the lent rows are filled.
+#![tactic(auto)]
+
 ghost use Rattle.rules_calls.specs.Promises.{words, StatisticsPromise};
 
 use rules::Header;
 use rules_calls::{Tally, Totals};
 
-// Statistics. A function over a lent slice of structs is proved by a walk of its code: so it is thin, one call, one test and eight stores.
+// Statistics: one call, one test and eight stores.
 pub fn statistics<'a, 'b>(
     h: Header,
     table: &'a [u32; 64],

@@ -1,4 +1,6 @@
 // Sums over the entries and over the locals, by class: what the rows of the statistics are made of.
+#![tactic(auto)]
+
 ghost use Rattle.std.specs.Prelude.{◌≡◌, ◌^◌, ◌<◌, ◌≤◌};
 ghost use Rattle.rules.specs.Base.{pick};
 ghost use Rattle.stats_by_class.specs.Sums.{free_at, alloc_at, tree_at, held_on, Summed};
@@ -6,7 +8,7 @@ ghost use Rattle.stats_by_class.specs.Sums.{free_at, alloc_at, tree_at, held_on,
 use rules::Local;
 
 // By class, of the entries that have it: their free, 2,048 less their free, their number.
-#[derive(Drop)]
+#[derive(Clone, Copy)]
 pub struct Entries {
     pub free: [usize; 8],
     pub alloc: [usize; 8],

@@ -1,4 +1,6 @@
 // Statistics for a program that has no rows of its own to lend: rows of zeros are lent for the call, and come back by value.
+#![tactic(auto)]
+
 ghost use Rattle.std.specs.Prelude.{◌≡◌, length, take};
 ghost use Rattle.rules.specs.Words.{config};
 ghost use Rattle.stats_told.specs.Stats.{stats_of};
@@ -63,7 +65,7 @@ fn gather(totals: Totals, rows: [Tally; 16]) -> Stats
     }
 }
 
-// Statistics, lent so many rows, at most sixteen. A function that lends an array of structs is proved by a walk of its code: so it is thin, and its work is done by the calls.
+// Statistics, lent so many rows, at most sixteen.
 pub fn report<'a>(
     h: Header,
     table: &'a [u32; 64],

@@ -1,4 +1,6 @@
 // The rows of the statistics by value: the row of a class, the eight rows.
+#![tactic(auto)]
+
 ghost use Rattle.std.specs.Prelude.{◌≡◌, List, ℕ, ◌^◌, ◌<◌, ◌≤◌, get_or};
 ghost use Rattle.rules.specs.Words.{config};
 ghost use Rattle.rules_calls.specs.Statistics.{local_free, tally};
@@ -50,7 +52,7 @@ fn class_row(h: Header, locals: &[u64], e: Entries, reserved: [usize; 8], class:
 }
 
 // The eight rows, one for each class.
-#[derive(Drop)]
+#[derive(Clone, Copy)]
 pub struct Rows {
     pub r0: Tally,
     pub r1: Tally,

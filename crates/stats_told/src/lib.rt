@@ -1,4 +1,6 @@
 // Statistics by value: the answer, and whether and with what the lent rows are to be filled.
+#![tactic(auto)]
+
 ghost use Rattle.std.specs.Prelude.{◌≡◌};
 ghost use Rattle.rules.specs.Words.{config};
 ghost use Rattle.stats_told.specs.Stats.{stats_of, refusing};
@@ -8,7 +10,7 @@ use rules_calls::{Outcome, Refusal, Tally, Totals};
 use stats_rows::Rows;
 
 // What statistics tell, by value: whether the rows are to be filled, the answer, the rows.
-#[derive(Drop)]
+#[derive(Clone, Copy)]
 pub struct Stats {
     pub done: bool,
     pub totals: Totals,

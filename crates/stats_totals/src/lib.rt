@@ -1,4 +1,6 @@
 // The whole of the statistics by value: total free and free trees.
+#![tactic(auto)]
+
 ghost use Rattle.std.specs.Prelude.{◌≡◌, List, ℕ, ◌^◌, ◌<◌, ◌≤◌};
 ghost use Rattle.rules.specs.Words.{config};
 ghost use Rattle.rules_calls.specs.Statistics.{total_free, free_trees};
@@ -7,7 +9,7 @@ ghost use Rattle.stats_totals.specs.Wholes.{entries_free, entries_whole, locals_
 use rules::Header;
 
 // Total free, and free trees.
-#[derive(Drop)]
+#[derive(Clone, Copy)]
 pub struct Whole {
     pub free: usize,
     pub trees: usize,

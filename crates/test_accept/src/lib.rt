@@ -1,4 +1,6 @@
 // The acceptance test of header and policy table, made at each exported call: the table row by row.
+#![tactic(auto)]
+
 ghost use Rattle.std.specs.Prelude.{◌≡◌};
 ghost use Rattle.rules.specs.Base.{all_below};
 ghost use Rattle.rules.specs.Words.{config};

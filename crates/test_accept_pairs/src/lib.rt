@@ -1,4 +1,6 @@
 // What the acceptance test asks of one pair of the policy table: its form, and the rules of good pairs.
+#![tactic(auto)]
+
 ghost use Rattle.std.specs.Prelude.{◌≡◌, ◌<◌};
 ghost use Rattle.rules.specs.Words.{config};
 ghost use Rattle.rules.specs.declared.Header.{Header};

@@ -1,4 +1,6 @@
 // The policy table as the acceptance test walks it, row by row: each pair of a configured class accepted, those of an unconfigured one zero.
+#![tactic(auto)]
+
 ghost use Rattle.std.specs.Prelude.{◌≡◌, ◌<◌};
 ghost use Rattle.rules.specs.Base.{all_below};
 ghost use Rattle.rules.specs.Words.{config};

@@ -1,4 +1,6 @@
 // What locals hold, over all of them: each tree once, and how many of entries and locals are reserved and present.
+#![tactic(auto)]
+
 ghost use Rattle.std.specs.Prelude.{◌≡◌, ◌≤◌, length};
 ghost use Rattle.rules.specs.Base.{bit_of, all_below};
 ghost use Rattle.rules_calls.specs.Standing.{apart_before, reserved_count, present_count};

@@ -1,4 +1,6 @@
 // The argument tests of a get and a put: the refusals 2 to 6, and the frame that a get is tested with.
+#![tactic(auto)]
+
 ghost use Rattle.std.specs.Prelude.{◌≡◌, List, ℕ, ◌<◌};
 ghost use Rattle.rules.specs.Words.{config};
 ghost use Rattle.rules_calls.specs.Calls.{outcome_of, refuse_local, refuse_class, refusal, frame_of};

@@ -1,4 +1,6 @@
 // The standing rules of the entries: one pass over them and the bitmap.
+#![tactic(auto)]
+
 ghost use Rattle.std.specs.Prelude.{◌≡◌, List, ℕ, ◌+◌, ◌*◌, ◌≤◌, length};
 ghost use Rattle.rules.specs.Base.{all_below};
 ghost use Rattle.rules.specs.Words.{config};

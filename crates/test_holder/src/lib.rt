@@ -1,4 +1,6 @@
 // The standing rules of a present local, the holder of a tree.
+#![tactic(auto)]
+
 ghost use Rattle.std.specs.Prelude.{◌≡◌, ◌^◌, ◌<◌};
 ghost use Rattle.rules.specs.Words.{config};
 ghost use Rattle.rules_calls.specs.Standing.{holder_stands};

@@ -1,4 +1,6 @@
 // The standing rules of the locals, by class, then index.
+#![tactic(auto)]
+
 ghost use Rattle.std.specs.Prelude.{◌≡◌, ◌^◌, ◌<◌};
 ghost use Rattle.rules.specs.Base.{all_below, sum};
 ghost use Rattle.rules.specs.Words.{config, locals_of};

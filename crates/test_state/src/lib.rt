@@ -1,4 +1,6 @@
 // The standing rules as a test of the whole state: one pass over the bitmap, two over the entries, three over the locals.
+#![tactic(auto)]
+
 ghost use Rattle.std.specs.Prelude.{◌≡◌};
 ghost use Rattle.rules.specs.Words.{config};
 ghost use Rattle.rules_calls.specs.Standing.{standing};

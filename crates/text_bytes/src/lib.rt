@@ -1,4 +1,6 @@
 // Bytes and numbers into a buffer: each function writes from a place on, as much as there is room for, and answers the place past it.
+#![tactic(auto)]
+
 ghost use Rattle.std.specs.Prelude.{◌≡◌, ◌++◌, ◌-◌};
 ghost use Rattle.text_bytes.specs.Text.{text, byte, write, blanks};
 ghost use Rattle.text_bytes.specs.Numbers.{decimal, hexadecimal, padded};

@@ -1,4 +1,6 @@
 // The numbers of outcomes with their names, written into a buffer.
+#![tactic(auto)]
+
 ghost use Rattle.std.specs.Prelude.{◌≡◌, ◌≤◌};
 ghost use Rattle.text_bytes.specs.Text.{text, write};
 ghost use Rattle.text_names.specs.Names.{name_at};

@@ -1,10 +1,14 @@
 // Texts, numbers and the names of outcomes to standard output; where it cannot be written, that is told on standard error.
+#![tactic(auto)]
+
 ghost use Rattle.std.specs.Prelude.{◌≤◌, length};
 
-use libc::{STDERR_FILENO, STDOUT_FILENO};
+// The streams that are written: standard output, and standard error.
+const STDOUT_FILENO: i32 = 1;
+const STDERR_FILENO: i32 = 2;
 
 // The programs that write.
-#[derive(Drop)]
+#[derive(Clone, Copy)]
 pub enum Program {
     Runner,
     Boot,

@@ -1,1 +1,2 @@
 // Demand 3 for the calls of the archive: in specs/. No function.
+#![tactic(auto)]

@@ -139,18 +139,18 @@ module _ (c : Config) (sz : Size c.tree_order) (ts ls bs : List ℕ) (w : TreeWo
     in-use-exact = omega (arith, all-over, free-over)
 
     -- in use are the frames of its trees that are not free
-    pub in_use : in_use c ts ls k ≡ over_class c ts k (λ t. tree_frames c.tree_order - clear c.tree_order bs t)
+    pub in_use-clear : in_use c ts ls k ≡ over_class c ts k (λ t. tree_frames c.tree_order - clear c.tree_order bs t)
     unfolding in_use
-    in_use = omega (arith, all-over, free-over)
+    in_use-clear = omega (arith, all-over, free-over)
 
     -- that is the frames of its trees whose bit is 1
     pub in-use-held : in_use c ts ls k ≡ over_class c ts k (λ t. held bs (t * tree_frames c.tree_order) (tree_frames c.tree_order))
-    in-use-held = in_use ∙ over-ext c ts k _ _ (λ t lt. omega (arith, clear-held c.tree_order bs t sz.least))
+    in-use-held = in_use-clear ∙ over-ext c ts k _ _ (λ t lt. omega (arith, clear-held c.tree_order bs t sz.least))
 
   -- free and in use are all frames of all trees
   pub used-and-free : sum (in_use c ts ls) 0 8 + total_free c ts ls ≡ trees_of c * tree_frames c.tree_order
   used-and-free =
-      let a = sum-ext (in_use c ts ls) (λ k. over_class c ts k (λ t. tree_frames c.tree_order - clear c.tree_order bs t)) 0 8 (λ k l m. in_use k) in
+      let a = sum-ext (in_use c ts ls) (λ k. over_class c ts k (λ t. tree_frames c.tree_order - clear c.tree_order bs t)) 0 8 (λ k l m. in_use-clear k) in
       let b = over-all c ts (λ t. tree_frames c.tree_order - clear c.tree_order bs t) (λ t lt. (K.class t lt).0) in
       let d = sum-plus (clear c.tree_order bs) (λ t. tree_frames c.tree_order - clear c.tree_order bs t) 0 (trees_of c) in
       let e = sum-ext (λ t. clear c.tree_order bs t + (tree_frames c.tree_order - clear c.tree_order bs t)) (λ t. tree_frames c.tree_order) 0 (trees_of c) (λ t l m. omega (arith, clear-held c.tree_order bs t sz.least)) in

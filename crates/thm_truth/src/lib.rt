@@ -1,1 +1,2 @@
 // What statistics tell of a state that passes the standing rules: in specs/. No function.
+#![tactic(auto)]

@@ -1,4 +1,6 @@
 // The lent tree words: an entry read, put, unreserved, synced; frames taken from it by a steal, by a reserve or steal. Total: an entry that is not there reads 0, and a store to it does nothing.
+#![tactic(auto)]
+
 ghost use Rattle.std.specs.Prelude.{◌≡◌, ◌^◌, ◌<◌, get_or, set};
 ghost use Rattle.rules.specs.Base.{out};
 ghost use Rattle.rules.specs.Words.{config, entry_at};

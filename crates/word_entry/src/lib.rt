@@ -1,4 +1,6 @@
 // What the rules do to a single entry where no class requests it: put, unreserve, sync. By value: no buffer but the table.
+#![tactic(auto)]
+
 ghost use Rattle.std.specs.Prelude.{◌≡◌, ◌^◌, ◌<◌};
 ghost use Rattle.rules.specs.Words.{config};
 ghost use Rattle.rules.specs.Entries.{if_full, class_after, put_of, unreserve_of, sync_of};

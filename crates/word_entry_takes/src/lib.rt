@@ -1,4 +1,6 @@
 // What an entry yields to a requested class, by value: steal; reserve or steal.
+#![tactic(auto)]
+
 ghost use Rattle.std.specs.Prelude.{◌≡◌, ◌^◌, ◌<◌};
 ghost use Rattle.rules.specs.Words.{config};
 ghost use Rattle.rules.specs.declared.Header.{Header};

@@ -1,4 +1,6 @@
 // A tree's and a local's word taken apart and put together. By value: no buffer.
+#![tactic(auto)]
+
 ghost use Rattle.std.specs.Prelude.{◌≡◌};
 ghost use Rattle.rules.specs.Words.{tree_of, tree_word, local_of, local_word};
 

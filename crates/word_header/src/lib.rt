@@ -1,4 +1,6 @@
 // What a header says: the configured classes, their numbers of locals and where these stand, the number of trees. By value, or by lent places.
+#![tactic(auto)]
+
 ghost use Rattle.std.specs.Prelude.{◌≡◌, ◌^◌, ◌<◌, ◌≤◌};
 ghost use Rattle.rules.specs.Base.{sum};
 ghost use Rattle.rules.specs.Words.{tree_count, configured, locals_of, slot, local_count};

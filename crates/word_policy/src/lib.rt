@@ -1,4 +1,6 @@
 // The policy lookup: the word of a pair of classes, its answer, and which answers let a local pay or its reservation move. By value: no buffer but the table.
+#![tactic(auto)]
+
 ghost use Rattle.std.specs.Prelude.{◌≡◌, ◌<◌};
 ghost use Rattle.rules.specs.Words.{config};
 ghost use Rattle.rules.specs.declared.Header.{Header};

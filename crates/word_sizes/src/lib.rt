@@ -1,4 +1,6 @@
 // The size of a block, and one number less another.
+#![tactic(auto)]
+
 ghost use Rattle.std.specs.Prelude.{◌≡◌, ◌^◌, ◌-◌, ◌≤◌};
 
 // 2^order, the frames of a block.

@@ -1,0 +1,11 @@
+-- What the goals of `boot::take_all` follow from. Assumes nothing.
+use mathlib.Core.Path.{refl, ◌∙◌}
+use Rattle.boot.proofs.take_all.Goals as goal
+
+pub loop-n-init : goal.loop-n-init
+loop-n-init c = (refl, (refl, refl))
+
+pub loop-n-preserved : goal.loop-n-preserved
+loop-n-preserved c =
+    let i = c.loop-n.invariant in
+    let k = c.show.auto in (k.1.1.0 ∙ i.0, (k.1.1.1.0 ∙ i.1.0, k.1.1.1.1.0 ∙ i.1.1))

@@ -1,0 +1,11 @@
+-- `boot_shows::give` is safe and ends. Assumes nothing.
+use Prim.Native.Nat.{◌≤◌}
+use mathlib.Core.Path.{◌≡◌}
+use lib.ListN.{length}
+use Rattle.boot_shows.proofs.give.Given as goal
+
+abbrev pub invariant-loop-order : goal.invariant-loop-order
+invariant-loop-order l = (l.order ≤ 12) × ((length l.trees ≡ length l.initial.trees) × ((length l.locals ≡ length l.initial.locals) × (length l.bits ≡ length l.initial.bits)))
+
+abbrev pub decreases-loop-order : goal.decreases-loop-order
+decreases-loop-order l = l.order

@@ -1,0 +1,39 @@
+-- `get::get` meets its contract. Assumes nothing.
+use mathlib.Core.Path.{sym, ap, ◌∙◌}
+use Rattle.test_arguments.specs.Checked.{checked-fits}
+use Rattle.law_calls.specs.Tested.{standing-accepted}
+use Rattle.test_arguments.specs.Refusals.{done-checked, state-broken, argument-refused, tests-passed}
+use Rattle.rules_calls.specs.Calls.{number_of, tell_get, close, get}
+use Rattle.get.proofs.get.Goals as goal
+
+pub routes-requires : goal.routes-requires
+routes-requires c =
+    checked-fits _ _ _ _ (standing-accepted _ _ _ _ (sym c.stands.ensures ∙ c.if-stands.true))
+    (done-checked _ _ (c.check.ensures _) c.in-Done.is)
+
+pub returns-in-Done : goal.returns-in-Done
+unfolding get
+returns-in-Done c =
+    rw (← c.frame_of.ensures)
+    (tests-passed _ _ _ _ _
+    c.stands.ensures
+    c.if-stands.true
+    (c.check.ensures _)
+    c.in-Done.is
+    (c.reply.ensures _ _ _ ∙ ap close c.routes.ensures))
+
+pub returns-in-Refused : goal.returns-in-Refused
+unfolding get tell_get
+returns-in-Refused c =
+    rw (← c.frame_of.ensures, c.refused.ensures)
+    (argument-refused _ _ _ _ _
+    c.stands.ensures
+    c.if-stands.true
+    (c.check.ensures _)
+    c.in-Refused.is)
+
+pub returns-else-stands : goal.returns-else-stands
+unfolding get tell_get number_of
+returns-else-stands c =
+    rw c.refused-else-stands.ensures
+    (state-broken _ _ _ _ _ c.stands.ensures c.if-stands.false)

@@ -1,0 +1,75 @@
+-- What the goals of `get_own::+get_local_top_up` follow from. Assumes nothing.
+use Rattle.get_own_topped.specs.Topped.{on_topped, top-topped}
+use Rattle.get_own.specs.TopUp.{take-parts, top_up-more, top_up-none}
+use Rattle.rules_calls.specs.FromLocals.{get_local}
+use Rattle.rules_calls.specs.State.{on_held, with_locals}
+use borrow.Author.Rules.{rules}
+use Rattle.get_own.proofs.+get_local_top_up.Goals as goal
+
+pub get_local-returns-in-Row : goal.get_local-returns-in-Row
+unfolding get_local on_held with_locals
+get_local-returns-in-Row t c = (
+  rw (
+    take-parts _ _ _ _ _ _,
+    ← c.size.ensures.0,
+    ← c.take.ensures,
+    c.in-Row.is,
+  ) c.at_row.ensures.0,
+  c.at_row.ensures.1,
+)
+
+pub get_local-returns-in-Few : goal.get_local-returns-in-Few
+unfolding get_local on_held with_locals
+get_local-returns-in-Few t c = (
+  rw (
+    take-parts _ _ _ _ _ _,
+    ← c.size.ensures.0,
+    ← c.take.ensures,
+    c.in-Few.is,
+  ) c.top_up.ensures.0,
+  c.top_up.ensures.1,
+)
+
+pub get_local-returns-in-Absent : goal.get_local-returns-in-Absent
+unfolding get_local on_held with_locals
+get_local-returns-in-Absent t c = (
+  rw (
+    take-parts _ _ _ _ _ _,
+    ← c.size.ensures.0,
+    ← c.take.ensures,
+    c.in-Absent.is,
+  ) (c.missed.ensures.0 _ _ _),
+  (search rules, search rules),
+)
+
+pub top_up-returns-then-syncs-eq0 : goal.top_up-returns-then-syncs-eq0
+top_up-returns-then-syncs-eq0 t c = (
+  rw (top_up-none _ _ _ _ _ _ _ _ c.if-syncs-eq0.true) (c.missed_at.ensures.0 _ _ _),
+  (search rules, search rules),
+)
+
+pub top_up-returns-then-topped : goal.top_up-returns-then-topped
+unfolding on_topped
+top_up-returns-then-topped t c = (
+  rw (
+    top_up-more _ _ _ _ _ _ _ _ c.if-syncs-eq0.false,
+    top-topped _ _ _ _ _ _ _,
+    ← c.size-n.ensures.0,
+    ← c.topped.ensures,
+    c.if-topped.true,
+  ) c.get_local.ensures.0,
+  c.get_local.ensures.1,
+)
+
+pub top_up-returns : goal.top_up-returns
+unfolding on_topped
+top_up-returns t c = (
+  rw (
+    top_up-more _ _ _ _ _ _ _ _ c.if-syncs-eq0.false,
+    top-topped _ _ _ _ _ _ _,
+    ← c.size-n.ensures.0,
+    ← c.topped.ensures,
+    c.if-topped.false,
+  ) (c.missed_at-2.ensures.0 _ _ _),
+  (search rules, search rules),
+)

@@ -1,0 +1,54 @@
+-- `get_reserved::reserved` meets its contract. Assumes nothing.
+use Rattle.get_reserved.specs.Reserved.{reserved-stored, reserved-undone}
+use native.Mathlib.Omega.{arith}
+use borrow.Author.Rules.{rules}
+use Rattle.get_reserved.proofs.reserved.Goals as goal
+
+pub overflow_mul-t : goal.overflow_mul-t
+overflow_mul-t c = omega (arith, c.requires.1.0)
+
+pub size-requires : goal.size-requires
+size-requires c = omega (arith, c.requires.0.order)
+
+pub reservation-requires : goal.reservation-requires
+reservation-requires c = c.requires.1.0
+
+pub unreserve_local-back-requires : goal.unreserve_local-back-requires
+unreserve_local-back-requires c = (c.requires.0.default, (c.requires.0.class, omega (arith, c.swap-l.ensures.1)))
+
+pub overflow_add-tries : goal.overflow_add-tries
+overflow_add-tries c = omega (arith, c.requires.1.1)
+
+pub unreserve-back-requires : goal.unreserve-back-requires
+unreserve-back-requires c = (c.requires.0.default, (c.requires.0.class, search rules))
+
+pub overflow_add-tries-in-Nothing : goal.overflow_add-tries-in-Nothing
+overflow_add-tries-in-Nothing c = omega (arith, c.requires.1.1)
+
+pub returns-in-At : goal.returns-in-At
+returns-in-At c = (
+  reserved-stored _ _ _ _ _ _
+      c.lower_get.ensures
+      c.done.ensures.1
+      c.in-At.is
+      c.size.ensures.0
+      c.less-free.ensures.0
+      c.reservation.ensures
+      c.swap-l.ensures.0
+      c.unreserve_local-back.ensures
+      (c.done.ensures.0 _ _ _)
+      (c.or_stuck.ensures.0 _ _ _),
+  omega (arith, c.done.ensures.1, c.or_stuck.ensures.1),
+)
+
+pub returns-in-Nothing : goal.returns-in-Nothing
+returns-in-Nothing c = (
+  reserved-undone _ _ _ _ _ _
+      c.lower_get.ensures
+      c.missed.ensures.1
+      c.in-Nothing.is
+      c.unreserve-back.ensures
+      (c.missed.ensures.0 _ _ _)
+      (c.or_stuck-in-Nothing.ensures.0 _ _ _),
+  omega (arith, c.missed.ensures.1, c.or_stuck-in-Nothing.ensures.1),
+)

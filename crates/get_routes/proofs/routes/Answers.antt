@@ -1,0 +1,34 @@
+-- `get_routes::routes` meets its contract. Assumes nothing.
+use Rattle.get_routes.specs.Turns.{asked-ends, asked-last}
+use Rattle.rules_calls.specs.Get.{routes}
+use mathlib.Core.Path.{sym, ◌∙◌}
+use native.Mathlib.Omega.{arith}
+use Rattle.get_routes.proofs.routes.Goals as goal
+
+pub get_at-requires : goal.get_at-requires
+get_at-requires c = (c.requires, omega arith)
+
+pub returns-in-Frame : goal.returns-in-Frame
+unfolding routes
+returns-in-Frame c = rw c.in-Frame.is c.get_at.ensures.0
+
+pub search_trees-r-requires : goal.search_trees-r-requires
+search_trees-r-requires c = (c.requires, c.requires.index)
+
+pub returns-then-ends : goal.returns-then-ends
+returns-then-ends c =
+    asked-ends _ _ _ _
+    c.in_default.is
+    c.search_trees-r.ensures.0
+    (sym c.ends.ensures ∙ c.if-ends.true)
+
+pub last_routes-requires : goal.last_routes-requires
+last_routes-requires c = (c.requires, omega (arith, c.search_trees-r.ensures.1))
+
+pub returns : goal.returns
+returns c =
+    asked-last _ _ _ _
+    c.in_default.is
+    c.search_trees-r.ensures.0
+    (sym c.ends.ensures ∙ c.if-ends.false)
+    c.last_routes.ensures.0

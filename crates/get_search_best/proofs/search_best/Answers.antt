@@ -1,0 +1,96 @@
+-- What the goals of `get_search_best::search_best` follow from. Assumes nothing.
+use mathlib.Core.Path.{◌≡◌, sym, ◌∙◌}
+use mathlib.Core.List.{List}
+use Prim.Native.Nat.{ℕ, ◌+◌, ◌-◌, ◌≤◌}
+use native.Mathlib.Omega.{arith}
+use lib.ListN.{length}
+use borrow.Author.Rules.{rules}
+use Rattle.rules_calls.specs.Walking.{on_sight, walk, stopped, search_best}
+use Rattle.get_best.specs.List.{list-empty}
+use Rattle.get_ends.specs.Ends.{sight-ends}
+use Rattle.get_walk.specs.Walked.{walk_end, walk_ends, walk-goes}
+use Rattle.get_search_best.proofs.search_best.Goals as goal
+
+pub loop-s-init : goal.loop-s-init
+loop-s-init c =
+    let v = c.walk_on-s.ensures in
+    record {
+      low = v.0.low;
+      high = v.0.high;
+      seen_most = v.0.most;
+      asked-most = search rules;
+      len_t = search rules;
+      len-l = search rules;
+      len-b = search rules;
+      walked = rw (← v.0.same _ _ _ _ _, list-empty);
+      next = v.1 _;
+    }
+
+pub overflow_add-seen : goal.overflow_add-seen
+overflow_add-seen c =
+    let l = c.loop-s.invariant in
+    omega (arith, l.low, l.seen_most, c.loop-s-test.true, c.requires)
+
+pub access-a-requires : goal.access-a-requires
+access-a-requires c =
+    let l = c.loop-s.invariant in
+    let p = c.requires in
+    (p.0, (omega (arith, c.walk_tree-t.ensures.1, p.1.1.0), omega (arith, l.low, l.asked-most, c.loop-s-test.true, p.1.1.1)))
+
+pub returns-then-ends : goal.returns-then-ends
+unfolding search_best stopped
+returns-then-ends c =
+    let l = c.loop-s.invariant in
+    let t = c.loop-s-test.true in
+    let v = c.access-a.ensures in
+    let e = sym c.ends.ensures ∙ c.if-ends.true in (
+      rw (
+        ← l.walked,
+        walk_ends _ _ _ _ _ _ _ _ _ _ _ _ _ _ _ _ _ _ t c.walk_tree-t.ensures.0 (l.next t) v.0 e,
+        sight-ends _ _ _ _ e,
+      ),
+      omega (arith, v.1, l.low, l.high, l.seen_most, l.asked-most),
+    )
+
+pub overflow_add-s : goal.overflow_add-s
+overflow_add-s c = omega (arith, c.loop-s-test.true, c.requires)
+
+pub walk_on-s-requires-in-loop-s : goal.walk_on-s-requires-in-loop-s
+walk_on-s-requires-in-loop-s c =
+    let l = c.loop-s.invariant in
+    let p = c.requires in
+    (p.0.order, (p.0.class, (p.1.0, (p.1.1.0, (p.1.1.1.0, (p.1.1.1.1.0, omega (arith, l.low, l.seen_most, c.loop-s-test.true, c.access-a.ensures.1, p.1.1.1)))))))
+
+pub loop-s-preserved : goal.loop-s-preserved
+loop-s-preserved c =
+    let l = c.loop-s.invariant in
+    let t = c.loop-s-test.true in
+    let v = c.access-a.ensures in
+    let u = c.walk_on-s-in-loop-s.ensures in
+    let e = sym c.ends.ensures ∙ c.if-ends.false in
+    record {
+      low = omega (arith, l.low, u.0.low);
+      high = omega (arith, l.low, l.high, u.0.high, t);
+      seen_most = omega (arith, l.low, l.seen_most, v.1, u.0.low, u.0.most);
+      asked-most = omega (arith, l.low, l.asked-most, v.1, u.0.low);
+      len_t = omega (arith, l.len_t, c.access-a.auto);
+      len-l = omega (arith, l.len-l, c.access-a.auto);
+      len-b = omega (arith, l.len-b, c.access-a.auto);
+      walked =
+          sym (u.0.same _ _ _ _ _)
+          ∙ (sym (walk-goes _ _ _ _ _ _ _ _ _ _ _ _ _ _ _ _ _ _ t c.walk_tree-t.ensures.0 (l.next t) v.0 e) ∙ l.walked);
+      next = u.1 _;
+    }
+
+pub try_list-requires : goal.try_list-requires
+try_list-requires c =
+    let l = c.loop-s.invariant in
+    let p = c.requires in
+    (p.0, (p.1.0, omega (arith, l.low, l.high, l.asked-most, p.1.1.1)))
+
+pub returns : goal.returns
+unfolding search_best on_sight
+returns c =
+    let l = c.loop-s.invariant in
+    let v = c.try_list.ensures in
+    (rw (← l.walked, walk_end _ _ _ _ _ _ _ _ _ _ _ c.loop-s-test.false, ← v.0), omega (arith, v.1, l.low, l.high, l.seen_most, l.asked-most))

@@ -1,0 +1,29 @@
+-- `get_search_best::search_best` meets its contract: at each turn the walk from here is the walk from the start; a tree that ends it ends the search, else the
+-- list is tried. Assumes nothing.
+use mathlib.Core.Path.{◌≡◌}
+use Prim.Native.Nat.{◌-◌, ◌+◌, ◌<◌, ◌≤◌}
+use mathlib.Core.List.{[]}
+use lib.ListN.{length}
+use Rattle.rules.specs.Words.{config, entry_at}
+use Rattle.rules_calls.specs.State.{st}
+use Rattle.rules_calls.specs.Walking.{walk_tree, rate, walk}
+use Rattle.get_best.specs.List.{list_of}
+use Rattle.get_search_best.proofs.search_best.Given as goal
+
+abbrev pub invariant-loop-s : goal.invariant-loop-s
+invariant-loop-s l =
+    record {
+      low : l.p.first ≤ l.s.at;
+      high : l.s.at ≤ l.p.first + (l.p.last - l.p.first);
+      seen_most : l.s.looks ≤ l.looks + (l.s.at - l.p.first);
+      asked-most : l.asked ≤ l.tries + (l.s.at - l.p.first);
+      len_t : length l.trees ≡ length l.initial.trees;
+      len-l : length l.locals ≡ length l.initial.locals;
+      len-b : length l.bits ≡ length l.initial.bits;
+      walked : walk (config l.h l.table) l.q l.w l.j l.p.m l.p.n l.p.start l.s.at l.p.last (list_of l.p.m l.s.best) (st l.trees l.locals l.bits l.s.looks l.asked)
+        ≡ walk (config l.h l.table) l.q l.w l.j l.p.m l.p.n l.p.start l.p.first l.p.last [] (st l.initial.trees l.initial.locals l.initial.bits l.looks l.tries);
+      next : l.s.at < l.p.last → rate (config l.h l.table) l.q l.w (entry_at l.trees (walk_tree l.p.n l.p.start l.s.at)) ≡ 258;
+    }
+
+abbrev pub decreases-loop-s : goal.decreases-loop-s
+decreases-loop-s l = l.p.last - l.s.at

@@ -1,0 +1,22 @@
+-- What the goals of `local_payers::payer_in` follow from. Assumes nothing.
+use Rattle.local_payers.specs.Loops.{passes, payer-end, pays}
+use Rattle.local_payers.proofs.payer_in.Goals as goal
+
+pub returns-in-Local : goal.returns-in-Local
+returns-in-Local c =
+    pays _ _ _ _ _ _ _ _
+    c.loop-d.invariant
+    c.loop-d-test.true
+    c.payer_at-payer.ensures
+    c.in-Local.is
+
+pub loop-d-preserved : goal.loop-d-preserved
+loop-d-preserved c =
+    passes _ _ _ _ _ _ _ _
+    c.loop-d.invariant
+    c.loop-d-test.true
+    c.payer_at-payer.ensures
+    c.in_default.is
+
+pub returns : goal.returns
+returns c = payer-end _ _ _ _ _ _ _ _ c.loop-d.invariant c.loop-d-test.false

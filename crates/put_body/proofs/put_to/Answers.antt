@@ -1,0 +1,40 @@
+-- `put_body::put_to` meets its contract. Assumes nothing.
+use Rattle.rules_calls.specs.State.{index_of}
+use Rattle.put_body.specs.PutTo.{to-entry, to-local, past-local}
+use native.Mathlib.Omega.{arith}
+use Rattle.put_body.proofs.put_to.Goals as goal
+
+pub slot-j-requires : goal.slot-j-requires
+unfolding index_of
+slot-j-requires c =
+    let l = rw c.in-Local.is at c.requires.1 in
+    omega arith
+
+pub returns-then-put : goal.returns-then-put
+returns-then-put c =
+    λ b.
+    to-local _ _ _ _ _ _
+    c.size-n.ensures.0
+    c.in-Local.is
+    c.slot-j.ensures
+    c.put-in-Local.ensures
+    c.if-put.true
+
+pub returns-in-Nothing : goal.returns-in-Nothing
+returns-in-Nothing c =
+    λ b.
+    to-entry _ _ _ _ _ _
+    c.size-n.ensures.0
+    c.in-Nothing.is
+    c.put.ensures
+
+pub returns-else-put : goal.returns-else-put
+returns-else-put c =
+    λ b.
+    past-local _ _ _ _ _ _
+    c.size-n.ensures.0
+    c.in-Local.is
+    c.slot-j.ensures
+    c.put-in-Local.ensures
+    c.if-put.false
+    c.put-in-Local-2.ensures

@@ -1,0 +1,12 @@
+-- `text_bytes::put_hex` meets its contract. Assumes nothing.
+use mathlib.Core.Path.{ap, ◌∙◌}
+use native.Mathlib.Omega.{arith}
+use Rattle.text_bytes.specs.Text.{text, write}
+use Rattle.text_bytes.specs.Numbers.{hexadecimal-is}
+use Rattle.text_bytes.proofs.put_hex.Goals as goal
+
+pub returns : goal.returns
+returns c =
+    let a = c.args in
+    let d = c.hex-k in
+    c.append.ensures ∙ ap (write (text a.out.now a.at)) (d.ensures.digits ∙ hexadecimal-is a.width a.n d.result d.ensures.len (omega arith))
