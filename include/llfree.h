@@ -10,7 +10,7 @@
  * as that of the locals where no class has any, the address of any word or row of that type does), the buffers, the
  * rows and the table of one call do not overlap, and no other thread uses them during the call.
  *
- * Link with libllfree_c.a (x86-64), which `rt staticlib llfree_c` makes. It asks for memcpy, memset, memmove and memcmp at most.
+ * Link with libllfree_c.a (x86-64), which `bash tools/archive` makes. It asks for memcpy, memset, memmove and memcmp at most.
  *
  * A whole use (tests/link builds and runs it; tests/link.c has every call): 8 trees, one class with two locals.
  *

@@ -2,7 +2,7 @@
 //! No dependencies. Nothing is tested here that the library tests itself: every call answers on any header, table,
 //! lengths, words, rows and arguments.
 //!
-//! Build with Cargo: the archive is taken from target/staticlib, where `rt staticlib llfree_c` puts it, or from the folder
+//! Build with Cargo: the archive is taken from target/staticlib, where `bash tools/archive` puts it, or from the folder
 //! that LLFREE_ARCHIVE names. Without Cargo, FOLDER being that of libllfree_c.a:
 //! `rustc --edition 2024 -O --crate-type rlib --crate-name llfree -L FOLDER -l static=llfree_c src/lib.rs`.
 //!
