@@ -8,4 +8,4 @@ loop-n-init c = (refl, (refl, refl))
 pub loop-n-preserved : goal.loop-n-preserved
 loop-n-preserved c =
     let i = c.loop-n.invariant in
-    let k = c.give.auto in (k.1.1.0 ∙ i.0, (k.1.1.1.0 ∙ i.1.0, k.1.1.1.1.0 ∙ i.1.1))
+    let k = c.give.auto in (k.trees ∙ i.0, (k.locals ∙ i.1.0, k.bits ∙ i.1.1))

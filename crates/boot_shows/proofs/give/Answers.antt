@@ -9,4 +9,4 @@ loop-order-preserved-then-not-has_block c = (search rules, c.loop-order.invarian
 pub loop-order-preserved : goal.loop-order-preserved
 loop-order-preserved c =
     let i = c.loop-order.invariant.1 in
-    let k = c.put-outcome.auto in (search rules, (k.1.1.0 ∙ i.0, (k.1.1.1.0 ∙ i.1.0, k.1.1.1.1.0 ∙ i.1.1)))
+    let k = c.put-outcome.auto in (search rules, (k.trees ∙ i.0, (k.locals ∙ i.1.0, k.bits ∙ i.1.1)))

@@ -37,7 +37,7 @@ loop-order-preserved c =
     let i = c.loop-order.invariant in
     let d = above-digit c.frames-wanted.result c.loop-order.order c.loop-order-test.true (sym c.has_block.ensures ∙ c.if-not-has_block.false) in
     let k = c.get-reply.auto in
-    (search rules, (rw (← d, ← i.1.0, c.with_block-frames.ensures), (i.1.1.0, (k.1.1.0 ∙ i.1.1.1.0, (k.1.1.1.0 ∙ i.1.1.1.1.0, k.1.1.1.1.0 ∙ i.1.1.1.1.1)))))
+    (search rules, (rw (← d, ← i.1.0, c.with_block-frames.ensures), (i.1.1.0, (k.trees ∙ i.1.1.1.0, (k.locals ∙ i.1.1.1.1.0, k.bits ∙ i.1.1.1.1.1)))))
 
 pub returns : goal.returns
 returns c =

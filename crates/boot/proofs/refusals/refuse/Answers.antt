@@ -8,4 +8,4 @@ loop-i-init c = (refl, (refl, refl))
 pub loop-i-preserved : goal.loop-i-preserved
 loop-i-preserved c =
     let i = c.loop-i.invariant in
-    let k = c.answer.auto in (k.1.1.0 ∙ i.0, (k.1.1.1.0 ∙ i.1.0, k.1.1.1.1.0 ∙ i.1.1))
+    let k = c.answer.auto in (k.trees ∙ i.0, (k.locals ∙ i.1.0, k.bits ∙ i.1.1))
