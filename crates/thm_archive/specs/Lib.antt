@@ -1,7 +1,5 @@
 -- chains of the archive's calls, to be read
 pub mod Chains
--- they are chains of the promises
-pub mod Archive
 -- what a start in them is lent
 pub mod Lent
 -- what a drain of the archive leaves

@@ -317,22 +317,3 @@ get-refused-counts c q name t l b =
     standing-ind Zeros c (fresh t l b) _
     (λ _. unless-ind Zeros (refusal c q (frame_of name)) (fresh t l b) _ (λ n e _ _. (refl, refl)) (λ _. closed (routes c q name (fresh t l b))))
     (λ _ _ _. (refl, refl))
-
--- ---- so do the answers that the promise of `get` allows
-
-module _ (h : Header) (pairs : List ℕ) (q : Request) (s : Words) (r : Reply) (e : Words) where
-  reply-looks : (name : Name) → GetPromise h pairs name q s r e → r.looks ≡ (get (config h pairs) q name s.trees s.locals s.bits).looks
-  reply-looks name p = sym (ap (λ (x : State). x.looks) (tell-state r.granted (st e.trees e.locals e.bits r.looks r.tries))) ∙ ap (λ (x : Told). x.looks) p
-
-  reply-tries : (name : Name) → GetPromise h pairs name q s r e → r.tries ≡ (get (config h pairs) q name s.trees s.locals s.bits).tries
-  reply-tries name p = sym (ap (λ (x : State). x.tries) (tell-state r.granted (st e.trees e.locals e.bits r.looks r.tries))) ∙ ap (λ (x : Told). x.tries) p
-
-  pub promise-unnamed-counts : GetPromise h pairs Any q s r e → (r.looks ≤ trees_of (config h pairs) + near (trees_of (config h pairs)) - 1) × (r.tries ≤ r.looks + 3)
-  promise-unnamed-counts p =
-      let C = get-unnamed-counts (config h pairs) q s.trees s.locals s.bits in
-      (omega (arith, C.0, reply-looks Any p), omega (arith, C.1, reply-looks Any p, reply-tries Any p))
-
-  pub promise-named-counts : (f : ℕ) → GetPromise h pairs (Frame f) q s r e → (r.looks ≡ 0) × (r.tries ≤ 4)
-  promise-named-counts f p =
-      let C = get-named-counts (config h pairs) q f s.trees s.locals s.bits in
-      (omega (arith, C.0, reply-looks (Frame f) p), omega (arith, C.1, reply-tries (Frame f) p))

@@ -2,5 +2,3 @@
 pub mod Sums
 -- what the figures are
 pub mod Truth
--- what the call tells
-pub mod Told

@@ -39,7 +39,7 @@ use Rattle.thm_complete.specs.Complete.{refused}
 use Rattle.thm_keeps.specs.Holders.{on_none}
 use Rattle.thm_keeps.specs.Standing.{kept_test}
 use Rattle.thm_sequence.specs.Demand.{number_got, frames_in, in_block, handed, gave_back, held_at_start, held_after_get, held_after_put, NotYetHeld, AllHeld, free_in}
-use Rattle.thm_sequence.specs.Blocks.{free-frame, held-frame, take-agrees, give-agrees, take-counts, give-counts, in-block}
+use Rattle.thm_sequence.proofs.Blocks.{free-frame, held-frame, take-agrees, give-agrees, take-counts, give-counts, in-block}
 
 -- the rules stand, and the ledger holds what the bitmap holds
 pub record Agreed (c : Config) (held : ℕ → Bool) (s : Words) : Type 0 where

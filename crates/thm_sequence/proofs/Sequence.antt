@@ -16,9 +16,9 @@ use Rattle.law_rules.specs.Sizes.{size-eleven}
 use Rattle.thm_hand.specs.Hand.{Kept}
 use Rattle.thm_keeps.specs.Standing.{kept_test, test-kept}
 use Rattle.thm_sequence.specs.Demand.{Step, gets, puts, drains, reports, starts, found_in, left_in, Chain, number, NoRestart, handed_out, given_back, held_at_start, held_after_get, held_after_put, NoneTwice, NoneBroken, NoneStuck, Demand3, Sequence, NeverStuck, FromStanding, OthersUnchanged}
-use Rattle.thm_sequence.specs.Blocks.{reserved-is}
-use Rattle.thm_sequence.specs.Refused.{step_left, lent-left}
-use Rattle.thm_sequence.specs.Steps.{Agreed, get-step, put_step, drain-step, count-step, refused-start, start-step}
+use Rattle.thm_sequence.proofs.Blocks.{reserved-is}
+use Rattle.thm_sequence.proofs.Refused.{step_left, lent-left}
+use Rattle.thm_sequence.proofs.Steps.{Agreed, get-step, put_step, drain-step, count-step, refused-start, start-step}
 
 -- the whole chain, from words where the rules and the ledger agree
 pub record AllSteps (z : ℕ) (c : Config) (held : ℕ → Bool) (s : Words) (xs : List Step) (e : Words) : Type 0 where

@@ -23,7 +23,7 @@ use Rattle.law_calls.specs.Checked.{refusal-range}
 use Rattle.law_calls.specs.Answers.{unless-ind, standing-ind}
 use Rattle.thm_complete.specs.Complete.{number-back}
 use Rattle.thm_sequence.specs.Demand.{found_in, left_in, Promised, Chain}
-use Rattle.thm_sequence.specs.Sequence.{sequence, never_stuck}
+use Rattle.thm_sequence.proofs.Sequence.{sequence, never_stuck}
 use Rattle.c_forms.specs.declared.Summary.{Summary}
 use Rattle.thm_archive.specs.Chains.{Call, gets, puts, drains, reports, starts, Answered, Calls, outcome_from, granted_from, totals_from, step_of, steps, ArchiveSequence}
 

@@ -36,10 +36,10 @@ use Rattle.thm_keeps.specs.Asked.{asks}
 use Rattle.thm_keeps.specs.Calls.{get_keeps, drain-keeps}
 use Rattle.thm_keeps.specs.Standing.{TreeWords, test-kept, kept_test}
 use Rattle.thm_reach.specs.Reach.{Lends, OwnAsked, Reachable, ReachedBy, Unreachable}
-use Rattle.thm_reach.specs.Ends.{Ends, ends-map, else-ends}
-use Rattle.thm_reach.specs.Walks.{NoTree, search_and_steal-ends, search_and_reserve-ends}
-use Rattle.thm_reach.specs.Own.{Spent, own-ends}
-use Rattle.thm_reach.specs.Lenders.{EmptyClass, NoneSteals, NoneMoves, steal_local-ends, demote_local-ends}
+use Rattle.thm_reach.proofs.Ends.{Ends, ends-map, else-ends}
+use Rattle.thm_reach.proofs.Walks.{NoTree, search_and_steal-ends, search_and_reserve-ends}
+use Rattle.thm_reach.proofs.Own.{Spent, own-ends}
+use Rattle.thm_reach.proofs.Lenders.{EmptyClass, NoneSteals, NoneMoves, steal_local-ends, demote_local-ends}
 
 -- what is unreachable is not reachable
 pub not-both : (c : Config) (ts ls : List ℕ) (k : ℕ) (given : Given) → Unreachable c ts ls k given → Reachable c ts ls k given → ⊥

@@ -24,7 +24,7 @@ use Rattle.law_calls.specs.Steps.{ifte-ind}
 use Rattle.law_calls.specs.Answers.{unless-ind, standing-ind}
 use Rattle.thm_complete.specs.Complete.{same-words}
 use Rattle.thm_sequence.specs.Demand.{Step, gets, puts, drains, reports, starts, Promised, number, number_got, found_in, left_in, LentLeft}
-use Rattle.thm_sequence.specs.Lent.{state-stays, others-left}
+use Rattle.thm_sequence.proofs.Lent.{state-stays, others-left}
 
 -- what a call that is not Done, Memory or Stuck tells has the words t, l and b
 abbrev Left : List ℕ → List ℕ → List ℕ → Told → Type 0

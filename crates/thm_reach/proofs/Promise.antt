@@ -18,7 +18,7 @@ use Rattle.law_rules.specs.Sizes.{size-eleven}
 use Rattle.thm_complete.specs.Complete.{same-refusal}
 use Rattle.thm_keeps.specs.Standing.{TreeWords}
 use Rattle.thm_reach.specs.Reach.{Unreachable}
-use Rattle.thm_reach.specs.Memory.{memory-exactly}
+use Rattle.thm_reach.proofs.Memory.{memory-exactly}
 
 -- a get that tells 7 is refused with Memory
 told-memory : (g : Granted) (s : State) → (tell_get g s).number ≡ 7 → g ≡ Granted.Refused Refusal.Memory

@@ -1,0 +1,2 @@
+-- the bounds hold of what the promise of `get` allows
+pub mod Promised

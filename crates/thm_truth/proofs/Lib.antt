@@ -1,0 +1,2 @@
+-- what the call tells
+pub mod Told
