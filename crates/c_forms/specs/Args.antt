@@ -3,7 +3,6 @@ use Rattle.std.specs.Prelude.{Bool, true, false, ℕ}
 use Rattle.rules.specs.declared.Name.{Name}
 use Rattle.rules.specs.declared.Name.TheVariants.{Any, Frame}
 use Rattle.rules.specs.declared.Given.{Given}
-use Rattle.rules.specs.declared.Given.TheVariants as Given
 use Rattle.rules.specs.declared.Request.{Request}
 
 -- the frame that a get names, if it names one

@@ -6,10 +6,8 @@ use Rattle.rules.specs.Locals.{local_take, local_swap, local_clear, has_enough, 
 use Rattle.rules.specs.declared.Local.{Local}
 use Rattle.rules.specs.declared.Name.{Name}
 use Rattle.rules.specs.declared.Given.{Given}
-use Rattle.rules.specs.declared.Given.TheVariants as Given
 use Rattle.rules.specs.declared.Held.TheVariants as Held
 use Rattle.rules.specs.declared.Payer.{Payer}
-use Rattle.rules.specs.declared.Payer.TheVariants as Payer
 use Rattle.rules.specs.declared.Request.{Request}
 use Rattle.rules_calls.specs.State.{State, Way, st, size, index_of, missed, stuck, on_held, on_swap, with_locals, with_trees, ask_lower}
 use Rattle.rules_calls.specs.FromLocals.{demote_to, move_from, demote_local}

@@ -6,7 +6,6 @@ use Rattle.rules.specs.Locals.{local_take, has_enough, steal_any}
 use Rattle.rules.specs.declared.Name.{Name}
 use Rattle.rules.specs.declared.Held.TheVariants as Held
 use Rattle.rules.specs.declared.Payer.{Payer}
-use Rattle.rules.specs.declared.Payer.TheVariants as Payer
 use Rattle.rules.specs.declared.Request.{Request}
 use Rattle.rules_calls.specs.declared.Got.{Got}
 use Rattle.rules_calls.specs.State.{State, Way, st, size, index_of, missed, on_held, with_locals, ask_lower}

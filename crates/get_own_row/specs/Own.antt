@@ -7,7 +7,6 @@ use Rattle.rules.specs.Locals.{local_row}
 use Rattle.rules.specs.Lower.{lower_get}
 use Rattle.rules.specs.declared.Name.{Name}
 use Rattle.rules.specs.declared.Found.{Found}
-use Rattle.rules.specs.declared.Found.TheVariants as Found
 use Rattle.rules.specs.declared.Request.{Request}
 use Rattle.rules_calls.specs.State.{State, Way, st, size, done, missed_at, on_found, put_entry, set_row, with_locals, with_trees, with_try}
 

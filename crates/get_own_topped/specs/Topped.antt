@@ -9,7 +9,6 @@ use Rattle.rules.specs.Entries.{entry_put, entry_sync}
 use Rattle.rules.specs.Locals.{local_put}
 use Rattle.rules.specs.declared.Request.{Request}
 use Rattle.rules.specs.declared.Synced.{Synced}
-use Rattle.rules.specs.declared.Synced.TheVariants as Synced
 use Rattle.rules_calls.specs.State.{State, Way, st, size, missed_at, on_sync, on_put, put_entry, with_trees, with_locals}
 use Rattle.rules_calls.specs.FromLocals.{top_by}
 

@@ -6,7 +6,6 @@ use Rattle.rules.specs.Locals.{local_swap, reservation}
 use Rattle.rules.specs.Lower.{lower_get}
 use Rattle.rules.specs.declared.Name.TheVariants.{Any}
 use Rattle.rules.specs.declared.Found.{Found}
-use Rattle.rules.specs.declared.Found.TheVariants as Found
 use Rattle.rules.specs.declared.Local.{Local}
 use Rattle.rules.specs.declared.Request.{Request}
 use Rattle.rules_calls.specs.declared.Routed.{Routed}

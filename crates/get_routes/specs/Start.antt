@@ -9,7 +9,6 @@ use Rattle.rules.specs.declared.Header.{Header}
 use Rattle.rules.specs.declared.Name.{Name}
 use Rattle.rules.specs.declared.Request.{Request}
 use Rattle.rules_calls.specs.declared.Got.{Got}
-use Rattle.rules_calls.specs.declared.Got.TheVariants as Got
 use Rattle.rules_calls.specs.State.{State, Way, size, done, missed, missed_at}
 use Rattle.rules_calls.specs.Get.{or_from}
 use Rattle.get_ends.specs.Ends.{ends}

@@ -4,7 +4,6 @@ use Rattle.std.proofs.Common.{arith}
 use Rattle.rules.specs.Base.{pick, ifte}
 use Rattle.rules.specs.Words.{Config, trees_of, locals_of, slot}
 use Rattle.rules.specs.declared.Given.{Given}
-use Rattle.rules.specs.declared.Given.TheVariants as Given
 use Rattle.rules.specs.declared.Request.{Request}
 use Rattle.rules_calls.specs.State.{State, index_of}
 use Rattle.rules_calls.specs.Get.{start_tree, get_reserving, search_trees}

@@ -6,7 +6,6 @@ use Rattle.rules.specs.Entries.{entry_put}
 use Rattle.rules.specs.Lower.{lower_get}
 use Rattle.rules.specs.declared.Name.{Name}
 use Rattle.rules.specs.declared.Found.{Found}
-use Rattle.rules.specs.declared.Found.TheVariants as Found
 use Rattle.rules.specs.declared.Request.{Request}
 use Rattle.rules_calls.specs.State.{State, Way, st, size, done, missed, on_found, put_entry, with_trees, with_try, ask_lower}
 

@@ -8,9 +8,7 @@ use Rattle.rules.specs.declared.Name.TheVariants.{Any}
 use Rattle.rules.specs.declared.Request.{Request}
 use Rattle.rules.specs.declared.Tree.{Tree}
 use Rattle.rules.specs.declared.Took.{Took}
-use Rattle.rules.specs.declared.Took.TheVariants as Took
 use Rattle.rules.specs.declared.Taken.{Taken}
-use Rattle.rules.specs.declared.Taken.TheVariants as Taken
 use Rattle.rules_calls.specs.State.{State, Way, st, size, missed, on_took, on_taken, with_trees, ask_lower}
 use Rattle.rules_calls.specs.Walking.{steal_global, reserved_tree, reserve_or_steal}
 

@@ -10,7 +10,6 @@ use Rattle.rules.specs.declared.Header.{Header}
 use Rattle.rules.specs.declared.Request.{Request}
 use Rattle.rules.specs.declared.Tree.{Tree}
 use Rattle.rules_calls.specs.declared.Got.{Got}
-use Rattle.rules_calls.specs.declared.Got.TheVariants as Got
 use Rattle.rules_calls.specs.declared.Walk.{Walk}
 use Rattle.rules_calls.specs.State.{State, st, with_look}
 use Rattle.get_best.specs.List.{list_of}

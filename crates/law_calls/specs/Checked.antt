@@ -5,7 +5,6 @@ use borrow.Author.Tests.{eqb-true, ltb-true, ltb-false}
 use Rattle.rules.specs.Words.{Config, configured, locals_of}
 use Rattle.rules.specs.Policy.{Configured}
 use Rattle.rules.specs.declared.Given.{Given}
-use Rattle.rules.specs.declared.Given.TheVariants as Given
 use Rattle.rules.specs.declared.Request.{Request}
 use Rattle.rules_calls.specs.Calls.{refuse_local, refuse_class, refusal}
 use Rattle.law_rules.specs.Kinds.{configured-fact}

@@ -11,9 +11,7 @@ use Rattle.rules.specs.declared.Name.{Name}
 use Rattle.rules.specs.declared.Name.TheVariants.{Any}
 use Rattle.rules.specs.declared.Request.{Request}
 use Rattle.rules_calls.specs.declared.Got.{Got}
-use Rattle.rules_calls.specs.declared.Got.TheVariants as Got
 use Rattle.rules_calls.specs.declared.Walk.{Walk}
-use Rattle.rules_calls.specs.declared.Walk.TheVariants as Walk
 use Rattle.rules_calls.specs.State.{State, Way, size, done, missed, stuck, with_trees, with_locals, with_try, with_look, ask_lower, put_entry}
 use Rattle.rules_calls.specs.Walking.{Candidate, Sight, at_once, walk_tree, rate, steal_global, reserved_tree, reserve_or_steal, access, tried, offered, visit, on_sight, walk_steps}
 use Rattle.law_calls.specs.Steps.{ifte-ind}

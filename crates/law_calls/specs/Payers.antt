@@ -15,7 +15,6 @@ use Rattle.rules.specs.declared.Name.{Name}
 use Rattle.rules.specs.declared.Found.{Found}
 use Rattle.rules.specs.declared.Found.TheVariants.{At, Nothing}
 use Rattle.rules.specs.declared.Payer.{Payer}
-use Rattle.rules.specs.declared.Payer.TheVariants as Payer
 use Rattle.law_rules.specs.First.{first-sound, first-empty}
 use Rattle.law_rules.specs.Cases.{by-eq}
 use Rattle.law_rules.specs.Round.{round-to}

@@ -16,14 +16,12 @@ use Rattle.rules.specs.declared.Local.{Local}
 use Rattle.rules.specs.declared.Kind.{Kind}
 use Rattle.rules.specs.declared.Kind.TheVariants.{Invalid, Steal, Demote, Match}
 use Rattle.rules.specs.declared.Took.{Took}
-use Rattle.rules.specs.declared.Took.TheVariants as Took
 use Rattle.rules.specs.declared.Taken.TheVariants as Taken
 use Rattle.rules.specs.declared.Found.{Found}
 use Rattle.rules.specs.declared.Found.TheVariants.{Nothing}
 use Rattle.rules.specs.declared.Name.{Name}
 use Rattle.rules.specs.declared.Request.{Request}
 use Rattle.rules_calls.specs.declared.Got.{Got}
-use Rattle.rules_calls.specs.declared.Got.TheVariants as Got
 use Rattle.rules_calls.specs.State.{State, Way, size, done, missed, with_trees, with_locals, with_try, on_took, on_taken, on_sync, on_held, on_put, on_swap, on_found, or_else, put_entry, ask_lower, unreserve, unreserve_local}
 use Rattle.rules_calls.specs.Get.{or_from}
 use Rattle.law_rules.specs.Lower.{Named, get-ind}

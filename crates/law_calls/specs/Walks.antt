@@ -9,7 +9,6 @@ use Rattle.rules.specs.Base.{pick, bit_of, Out, out}
 use Rattle.rules.specs.Words.{Config, entry_at}
 use Rattle.rules.specs.declared.Request.{Request}
 use Rattle.rules_calls.specs.declared.Got.{Got}
-use Rattle.rules_calls.specs.declared.Got.TheVariants as Got
 use Rattle.rules_calls.specs.declared.Walk.{Walk}
 use Rattle.rules_calls.specs.State.{State, Way, missed, with_look}
 use Rattle.rules_calls.specs.Walking.{walk_tree, at_once, is_full, rate, Candidate, rated, insert, admit, access, Sight, sight, tried, offered, visit, on_sight, walk_steps, try_list}

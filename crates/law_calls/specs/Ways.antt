@@ -7,15 +7,10 @@ use Rattle.rules.specs.Entries.{entry_unreserve}
 use Rattle.rules.specs.declared.Tree.{Tree}
 use Rattle.rules.specs.declared.Local.{Local}
 use Rattle.rules.specs.declared.Took.{Took}
-use Rattle.rules.specs.declared.Took.TheVariants as Took
 use Rattle.rules.specs.declared.Taken.{Taken}
-use Rattle.rules.specs.declared.Taken.TheVariants as Taken
 use Rattle.rules.specs.declared.Synced.{Synced}
-use Rattle.rules.specs.declared.Synced.TheVariants as Synced
 use Rattle.rules.specs.declared.Held.{Held}
-use Rattle.rules.specs.declared.Held.TheVariants as Held
 use Rattle.rules.specs.declared.Found.{Found}
-use Rattle.rules.specs.declared.Found.TheVariants as Found
 use Rattle.rules_calls.specs.State.{State, with_trees, with_locals, with_try, on_took, on_taken, on_sync, on_held, on_put, on_swap, on_found, unreserve, unreserve_local}
 use Rattle.law_calls.specs.Steps.{ifte-ind}
 

@@ -1,7 +1,7 @@
 -- What a caller shows of a block: it is one of the bitmap's. Its halves and the blocks in it are too. Assumes nothing.
 use Rattle.std.specs.Prelude.{◌≡◌, List, ℕ, ◌+◌, ◌-◌, ◌*◌, ◌/◌, ◌^◌, ◌<◌, ◌≤◌, length}
 use Rattle.std.proofs.Common.{mul-le-mul_left, arith, pow_pos}
-use Rattle.law_rules.specs.Power.{pow-half, double, inside, in_tree}
+use Rattle.law_rules.specs.Power.{pow-half, double, in_tree}
 
 -- the block j of order o is one of the bitmap's; 2^22 words are 1,024 trees of order 18
 pub record Block (ws : List ℕ) (o j : ℕ) : Type 0 where

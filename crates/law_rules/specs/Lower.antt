@@ -12,7 +12,7 @@ use Rattle.std.proofs.Math.Pow.{pow_mono}
 use borrow.Author.Tests.{leb-true, ltb-true, eqb-true, eqb-false}
 use Rattle.rules.specs.Base.{pick, Out, out}
 use Rattle.rules.specs.Words.{tree_frames, tree_rows}
-use Rattle.rules.specs.Lower.{held, held_in, mark, search_in, has_tree, lower_find, lower_take, lower_get, lower_put}
+use Rattle.rules.specs.Lower.{held_in, mark, search_in, has_tree, lower_find, lower_take, lower_get, lower_put}
 use Rattle.rules.specs.declared.Found.{Found}
 use Rattle.rules.specs.declared.Found.TheVariants.{At, Nothing}
 use Rattle.rules.specs.declared.Name.{Name}

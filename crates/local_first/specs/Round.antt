@@ -10,7 +10,6 @@ use Rattle.rules.specs.Locals.{has_enough, cyclic, first_local, payer_or}
 use Rattle.rules.specs.declared.Name.{Name}
 use Rattle.rules.specs.declared.Found.TheVariants.{Nothing}
 use Rattle.rules.specs.declared.Payer.{Payer}
-use Rattle.rules.specs.declared.Payer.TheVariants as Payer
 use Rattle.law_rules.specs.First.{first-hit}
 
 -- the local of class k that pays, or nobody

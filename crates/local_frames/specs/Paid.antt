@@ -1,11 +1,10 @@
 -- A take from a local that has enough: it is paid. Assumes nothing.
 use Rattle.std.specs.Prelude.{◌≡◌, refl, Bool, true, false, List, ℕ, ◌-◌, leb, set}
 use Rattle.std.proofs.Common.{arith}
-use Rattle.rules.specs.Base.{pick, Out, out}
+use Rattle.rules.specs.Base.{pick, out}
 use Rattle.rules.specs.Words.{local_at, local_word}
 use Rattle.rules.specs.Locals.{reservation, in_tree, local_take, has_enough}
 use Rattle.rules.specs.declared.Held.{Held}
-use Rattle.rules.specs.declared.Held.TheVariants as Held
 use Rattle.rules.specs.declared.Name.{Name}
 
 passed : {A : Type 0} (a b d : Bool) (x y z : A) → pick a (pick b d false) false ≡ true → pick a (pick b (pick d x y) y) z ≡ x

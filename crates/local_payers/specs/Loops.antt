@@ -11,7 +11,6 @@ use Rattle.rules.specs.declared.Name.{Name}
 use Rattle.rules.specs.declared.Found.{Found}
 use Rattle.rules.specs.declared.Found.TheVariants.{At, Nothing}
 use Rattle.rules.specs.declared.Payer.{Payer}
-use Rattle.rules.specs.declared.Payer.TheVariants as Payer
 use Rattle.local_first.specs.Round.{payer_of}
 
 -- the local of class t that pays for a request of class k, or nobody

@@ -5,7 +5,6 @@ use Rattle.rules.specs.Words.{Config, tree_frames, slot}
 use Rattle.rules.specs.Entries.{entry_put}
 use Rattle.rules.specs.Locals.{local_put}
 use Rattle.rules.specs.declared.Given.{Given}
-use Rattle.rules.specs.declared.Given.TheVariants as Given
 use Rattle.rules.specs.declared.Request.{Request}
 use Rattle.rules_calls.specs.State.{size, on_put, put_entry, with_trees, with_locals}
 use Rattle.rules_calls.specs.Calls.{fresh, put_to}

@@ -7,11 +7,8 @@ use Rattle.rules.specs.declared.Tree.{Tree}
 use Rattle.rules.specs.declared.Kind.{Kind}
 use Rattle.rules.specs.declared.Kind.TheVariants.{Invalid, Steal, Demote, Match}
 use Rattle.rules.specs.declared.Took.{Took}
-use Rattle.rules.specs.declared.Took.TheVariants as Took
 use Rattle.rules.specs.declared.Taken.{Taken}
-use Rattle.rules.specs.declared.Taken.TheVariants as Taken
 use Rattle.rules.specs.declared.Synced.{Synced}
-use Rattle.rules.specs.declared.Synced.TheVariants as Synced
 
 -- the default class where the tree is now full, else the class it had
 unfoldable pub if_full : ℕ → ℕ → ℕ → ℕ → ℕ

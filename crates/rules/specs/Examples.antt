@@ -9,15 +9,11 @@ use Rattle.rules.specs.Lower.{held, held_in, clear_bits, clear, mark, search_in,
 use Rattle.rules.specs.declared.Kind.{Kind}
 use Rattle.rules.specs.declared.Kind.TheVariants.{Invalid, Steal, Demote, Match}
 use Rattle.rules.specs.declared.Took.{Took}
-use Rattle.rules.specs.declared.Took.TheVariants as Took
 use Rattle.rules.specs.declared.Taken.{Taken}
-use Rattle.rules.specs.declared.Taken.TheVariants as Taken
 use Rattle.rules.specs.declared.Held.{Held}
-use Rattle.rules.specs.declared.Held.TheVariants as Held
 use Rattle.rules.specs.declared.Found.{Found}
 use Rattle.rules.specs.declared.Found.TheVariants.{At, Nothing}
 use Rattle.rules.specs.declared.Payer.{Payer}
-use Rattle.rules.specs.declared.Payer.TheVariants as Payer
 use Rattle.rules.specs.declared.Name.TheVariants.{Any, Frame}
 
 -- table T: (0,0), (1,1) Match, cut 0, low 0, high 255; (0,1) Demote; (1,0) Steal; classes 0 and 1 with two locals each, default d

@@ -8,16 +8,11 @@ use Rattle.rules.specs.Lower.{lower_put}
 use Rattle.rules.specs.declared.Name.{Name}
 use Rattle.rules.specs.declared.Name.TheVariants.{Any, Frame}
 use Rattle.rules.specs.declared.Given.{Given}
-use Rattle.rules.specs.declared.Given.TheVariants as Given
 use Rattle.rules.specs.declared.Request.{Request}
 use Rattle.rules_calls.specs.declared.Got.{Got}
-use Rattle.rules_calls.specs.declared.Got.TheVariants as Got
 use Rattle.rules_calls.specs.declared.Refusal.{Refusal}
-use Rattle.rules_calls.specs.declared.Refusal.TheVariants as Refusal
 use Rattle.rules_calls.specs.declared.Outcome.{Outcome}
-use Rattle.rules_calls.specs.declared.Outcome.TheVariants as Outcome
 use Rattle.rules_calls.specs.declared.Granted.{Granted}
-use Rattle.rules_calls.specs.declared.Granted.TheVariants as Granted
 use Rattle.rules_calls.specs.declared.Reply.{Reply}
 use Rattle.rules_calls.specs.State.{State, st, Way, size, with_bits, on_put, on_swap, put_entry, unreserve_local}
 use Rattle.rules_calls.specs.Get.{routes}

@@ -8,10 +8,8 @@ use Rattle.rules.specs.Lower.{lower_get}
 use Rattle.rules.specs.declared.Local.{Local}
 use Rattle.rules.specs.declared.Name.{Name}
 use Rattle.rules.specs.declared.Given.{Given}
-use Rattle.rules.specs.declared.Given.TheVariants as Given
 use Rattle.rules.specs.declared.Request.{Request}
 use Rattle.rules.specs.declared.Payer.{Payer}
-use Rattle.rules.specs.declared.Payer.TheVariants as Payer
 use Rattle.rules_calls.specs.State.{State, Way, size, index_of, done, missed, missed_at, stuck, on_sync, on_held, on_put, on_swap, on_found, put_entry, set_row, ask_lower, unreserve, unreserve_local}
 
 -- from a local: subtract, ask the lower at the local's row, store the found frame's row; if it refuses, the frames go to the tree's entry.

@@ -5,10 +5,8 @@ use Rattle.rules.specs.Words.{Config, tree_frames, trees_of, locals_of, slot}
 use Rattle.rules.specs.declared.Name.{Name}
 use Rattle.rules.specs.declared.Name.TheVariants.{Any, Frame}
 use Rattle.rules.specs.declared.Given.{Given}
-use Rattle.rules.specs.declared.Given.TheVariants as Given
 use Rattle.rules.specs.declared.Request.{Request}
 use Rattle.rules_calls.specs.declared.Got.{Got}
-use Rattle.rules_calls.specs.declared.Got.TheVariants as Got
 use Rattle.rules_calls.specs.State.{State, Way, or_else}
 use Rattle.rules_calls.specs.FromLocals.{get_local, own_local, steal_local, demote_local}
 use Rattle.rules_calls.specs.Walking.{steal_global}

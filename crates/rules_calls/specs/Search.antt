@@ -6,7 +6,6 @@ use Rattle.rules.specs.declared.Request.{Request}
 use Rattle.rules.specs.declared.Found.{Found}
 use Rattle.rules.specs.declared.Found.TheVariants.{At, Nothing}
 use Rattle.rules_calls.specs.declared.Walk.{Walk}
-use Rattle.rules_calls.specs.declared.Walk.TheVariants as Walk
 use Rattle.rules_calls.specs.State.{State, Way, or_else}
 use Rattle.rules_calls.specs.Walking.{search_best}
 

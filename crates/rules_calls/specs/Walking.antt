@@ -14,9 +14,7 @@ use Rattle.rules.specs.declared.Name.TheVariants.{Any}
 use Rattle.rules.specs.declared.Kind.{Kind}
 use Rattle.rules.specs.declared.Kind.TheVariants.{Invalid, Steal, Demote, Match}
 use Rattle.rules_calls.specs.declared.Got.{Got}
-use Rattle.rules_calls.specs.declared.Got.TheVariants as Got
 use Rattle.rules_calls.specs.declared.Walk.{Walk}
-use Rattle.rules_calls.specs.declared.Walk.TheVariants as Walk
 use Rattle.rules_calls.specs.State.{State, Way, size, done, missed, stuck, or_else, with_look, on_took, on_taken, on_swap, on_found, ask_lower, unreserve, unreserve_local}
 
 -- the tree at start + offset, modulo n; even i gives +i/2, odd i gives −(i+1)/2

@@ -3,7 +3,6 @@ use Rattle.std.specs.Prelude.{List, ◌++◌, ℕ}
 use Rattle.text_bytes.specs.Text.{say}
 use Rattle.text_names.specs.Names.{end, field, name_at}
 use Rattle.rules_calls.specs.declared.Granted.{Granted}
-use Rattle.rules_calls.specs.declared.Granted.TheVariants as Granted
 use Rattle.rules_calls.specs.declared.Reply.{Reply}
 use Rattle.rules_calls.specs.Calls.{number_of}
 

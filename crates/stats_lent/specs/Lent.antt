@@ -8,7 +8,6 @@ use Rattle.rules.specs.Words.{config}
 use Rattle.rules.specs.declared.Header.{Header}
 use Rattle.rules_calls.specs.declared.Refusal.TheVariants as Refusal
 use Rattle.rules_calls.specs.declared.Outcome.{Outcome}
-use Rattle.rules_calls.specs.declared.Outcome.TheVariants as Outcome
 use Rattle.rules_calls.specs.declared.Tally.{Tally}
 use Rattle.rules_calls.specs.declared.Totals.{Totals}
 use Rattle.rules_calls.specs.Calls.{outcome_of, number_of}

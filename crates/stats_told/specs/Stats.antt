@@ -6,13 +6,11 @@ use Rattle.std.proofs.Math.Dec.{eqb→eq, T}
 use Rattle.rules.specs.Base.{ifte}
 use Rattle.rules.specs.Words.{Config}
 use Rattle.rules_calls.specs.declared.Refusal.{Refusal}
-use Rattle.rules_calls.specs.declared.Refusal.TheVariants as Refusal
 use Rattle.rules_calls.specs.declared.Outcome.TheVariants as Outcome
 use Rattle.rules_calls.specs.declared.Tally.{Tally}
 use Rattle.rules_calls.specs.Calls.{outcome_of, number_of}
 use Rattle.rules_calls.specs.Standing.{standing}
 use Rattle.rules_calls.specs.Statistics.{tally, total_free, free_trees, told_totals, statistics}
-use Rattle.stats_rows.specs.declared.Rows.{Rows}
 use Rattle.stats_rows.specs.Rows.{rows_of, row_list, rows-tallies}
 use Rattle.stats_told.specs.declared.Stats.{Stats}
 

@@ -5,7 +5,6 @@ use Rattle.rules.specs.Words.{Config, config, locals_of}
 use Rattle.rules.specs.Policy.{accepted}
 use Rattle.rules.specs.declared.Header.{Header}
 use Rattle.rules.specs.declared.Given.{Given}
-use Rattle.rules.specs.declared.Given.TheVariants as Given
 use Rattle.rules.specs.declared.Request.{Request}
 use Rattle.law_rules.specs.Accepted.{accepted-says, locals-most}
 use Rattle.rules_calls.specs.State.{index_of}

@@ -5,9 +5,7 @@ use Rattle.rules.specs.Base.{ifte}
 use Rattle.rules.specs.Words.{Config}
 use Rattle.rules.specs.declared.Request.{Request}
 use Rattle.rules_calls.specs.declared.Refusal.{Refusal}
-use Rattle.rules_calls.specs.declared.Refusal.TheVariants as Refusal
 use Rattle.rules_calls.specs.declared.Outcome.{Outcome}
-use Rattle.rules_calls.specs.declared.Outcome.TheVariants as Outcome
 use Rattle.rules_calls.specs.State.{State}
 use Rattle.rules_calls.specs.Standing.{standing}
 use Rattle.rules_calls.specs.Calls.{Told, telling, number_of, outcome_of, refusal, unless, if_standing}

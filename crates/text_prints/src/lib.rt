@@ -5,6 +5,7 @@ ghost use Rattle.std.specs.Prelude.{◌≤◌, length};
 
 // The streams that are written: standard output, and standard error.
 const STDOUT_FILENO: i32 = 1;
+
 const STDERR_FILENO: i32 = 2;
 
 // The programs that write.

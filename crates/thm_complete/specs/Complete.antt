@@ -6,11 +6,8 @@ use Rattle.rules.specs.declared.Header.{Header}
 use Rattle.rules.specs.declared.Request.{Request}
 use Rattle.rules.specs.declared.Name.{Name}
 use Rattle.rules_calls.specs.declared.Refusal.{Refusal}
-use Rattle.rules_calls.specs.declared.Refusal.TheVariants as Refusal
 use Rattle.rules_calls.specs.declared.Outcome.{Outcome}
-use Rattle.rules_calls.specs.declared.Outcome.TheVariants as Outcome
 use Rattle.rules_calls.specs.declared.Granted.{Granted}
-use Rattle.rules_calls.specs.declared.Granted.TheVariants as Granted
 use Rattle.rules_calls.specs.declared.Reply.{Reply}
 use Rattle.rules_calls.specs.declared.Tally.{Tally}
 use Rattle.rules_calls.specs.declared.Totals.{Totals}

@@ -11,7 +11,6 @@ use Rattle.rules.specs.declared.Name.{Name}
 use Rattle.rules.specs.declared.Name.TheVariants.{Any, Frame}
 use Rattle.rules.specs.declared.Request.{Request}
 use Rattle.rules_calls.specs.declared.Got.{Got}
-use Rattle.rules_calls.specs.declared.Got.TheVariants as Got
 use Rattle.rules_calls.specs.State.{State, Way, size, or_else, with_trees, with_try, put_entry, ask_lower, unreserve}
 use Rattle.law_rules.specs.Block.{Block}
 use Rattle.law_rules.specs.Power.{Inside}

@@ -14,10 +14,8 @@ use Rattle.rules.specs.Locals.{reservation, in_tree, local_take, local_put}
 use Rattle.rules.specs.Lower.{mark}
 use Rattle.rules.specs.declared.Local.{Local}
 use Rattle.rules.specs.declared.Synced.{Synced}
-use Rattle.rules.specs.declared.Synced.TheVariants as Synced
 use Rattle.rules.specs.declared.Name.{Name}
 use Rattle.rules.specs.declared.Given.{Given}
-use Rattle.rules.specs.declared.Given.TheVariants as Given
 use Rattle.rules.specs.declared.Request.{Request}
 use Rattle.rules_calls.specs.State.{State, Way, size, done, missed, missed_at, on_held, on_put, on_sync, with_trees, with_locals, with_try, put_entry, set_row}
 use Rattle.rules_calls.specs.Standing.{tree_on}

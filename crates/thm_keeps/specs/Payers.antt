@@ -11,10 +11,8 @@ use Rattle.rules.specs.Locals.{reservation, in_tree, may_pay, may_move, steal_an
 use Rattle.rules.specs.declared.Local.{Local}
 use Rattle.rules.specs.declared.Name.{Name}
 use Rattle.rules.specs.declared.Given.{Given}
-use Rattle.rules.specs.declared.Given.TheVariants as Given
 use Rattle.rules.specs.declared.Request.{Request}
 use Rattle.rules.specs.declared.Payer.{Payer}
-use Rattle.rules.specs.declared.Payer.TheVariants as Payer
 use Rattle.rules_calls.specs.State.{State, size, index_of, missed, with_trees, with_locals}
 use Rattle.rules_calls.specs.Standing.{tree_on}
 use Rattle.rules_calls.specs.FromLocals.{pay_from, steal_local, demote_to, move_from, demote_local}

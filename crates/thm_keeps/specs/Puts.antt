@@ -5,7 +5,6 @@ use Prim.Native.Nat.{ℕ, ◌/◌, ◌<◌}
 use Rattle.std.proofs.Common.{arith}
 use Rattle.rules.specs.Words.{Config, tree_frames, trees_of, slot, local_at}
 use Rattle.rules.specs.declared.Given.{Given}
-use Rattle.rules.specs.declared.Given.TheVariants as Given
 use Rattle.rules.specs.declared.Request.{Request}
 use Rattle.rules_calls.specs.State.{State, size, with_trees, with_locals, put_entry}
 use Rattle.rules_calls.specs.Standing.{tree_on}

@@ -8,7 +8,6 @@ use Rattle.rules.specs.Words.{Config, tree_frames, trees_of, locals_of, slot}
 use Rattle.rules.specs.declared.Name.{Name}
 use Rattle.rules.specs.declared.Name.TheVariants.{Any, Frame}
 use Rattle.rules.specs.declared.Given.{Given}
-use Rattle.rules.specs.declared.Given.TheVariants as Given
 use Rattle.rules.specs.declared.Request.{Request}
 use Rattle.rules_calls.specs.State.{State}
 use Rattle.rules_calls.specs.FromLocals.{get_local}

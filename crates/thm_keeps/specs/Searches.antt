@@ -7,9 +7,7 @@ use Rattle.rules.specs.Words.{Config, huge_order, trees_of, locals_of, slot}
 use Rattle.rules.specs.declared.Name.TheVariants.{Any}
 use Rattle.rules.specs.declared.Request.{Request}
 use Rattle.rules_calls.specs.declared.Got.{Got}
-use Rattle.rules_calls.specs.declared.Got.TheVariants as Got
 use Rattle.rules_calls.specs.declared.Walk.{Walk}
-use Rattle.rules_calls.specs.declared.Walk.TheVariants as Walk
 use Rattle.rules_calls.specs.State.{State, with_look}
 use Rattle.rules_calls.specs.Walking.{walk_tree, Candidate, access, Sight, sight, visit, walk, try_list, stopped, search_best}
 use Rattle.rules_calls.specs.Search.{near, rounded_start, search_far, search_from, search_and_reserve, search_and_steal}

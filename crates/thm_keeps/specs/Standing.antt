@@ -7,7 +7,7 @@ use Rattle.std.proofs.Math.Logic.{⊎_elim}
 use native.Mathlib.Omega.{arith}
 use Rattle.std.proofs.Math.Decide.{dec_lt}
 use Rattle.std.proofs.Math.ListN.{get_or, get_or-eq_default}
-use Rattle.rules.specs.Base.{both, bit_of, sum}
+use Rattle.rules.specs.Base.{both, bit_of}
 use Rattle.rules.specs.Words.{Config, tree_of, trees_of, local_count, slot, entry_at, local_at}
 use Rattle.rules.specs.Policy.{accepted, Good}
 use Rattle.rules.specs.Lower.{bit, held, clear}

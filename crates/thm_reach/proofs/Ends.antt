@@ -12,9 +12,7 @@ use Rattle.rules.specs.declared.Found.TheVariants.{Nothing}
 use Rattle.rules.specs.declared.Name.TheVariants.{Any}
 use Rattle.rules.specs.declared.Request.{Request}
 use Rattle.rules_calls.specs.declared.Got.{Got}
-use Rattle.rules_calls.specs.declared.Got.TheVariants as Got
 use Rattle.rules_calls.specs.declared.Walk.{Walk}
-use Rattle.rules_calls.specs.declared.Walk.TheVariants as Walk
 use Rattle.rules_calls.specs.State.{State, st, Way, size, done, stuck, or_else, with_trees, ask_lower}
 use Rattle.rules_calls.specs.Standing.{tree_on}
 use Rattle.rules_calls.specs.Walking.{steal_global, reserved_tree, reserve_or_steal, access}

@@ -16,10 +16,8 @@ use Rattle.rules.specs.declared.Local.{Local}
 use Rattle.rules.specs.declared.Kind.{Kind}
 use Rattle.rules.specs.declared.Name.TheVariants.{Any}
 use Rattle.rules.specs.declared.Given.{Given}
-use Rattle.rules.specs.declared.Given.TheVariants as Given
 use Rattle.rules.specs.declared.Request.{Request}
 use Rattle.rules.specs.declared.Payer.{Payer}
-use Rattle.rules.specs.declared.Payer.TheVariants as Payer
 use Rattle.rules_calls.specs.State.{State, st, size, index_of, missed, stuck, with_trees, with_locals}
 use Rattle.rules_calls.specs.Standing.{tree_on}
 use Rattle.rules_calls.specs.FromLocals.{pay_from, steal_local, demote_to, move_from, demote_local}

@@ -12,10 +12,8 @@ use Rattle.rules.specs.Words.{Config, trees_of, locals_of, slot, tree_of, local_
 use Rattle.rules.specs.Policy.{kind_at}
 use Rattle.rules.specs.declared.Name.TheVariants.{Any}
 use Rattle.rules.specs.declared.Given.{Given}
-use Rattle.rules.specs.declared.Given.TheVariants as Given
 use Rattle.rules.specs.declared.Request.{Request}
 use Rattle.rules_calls.specs.declared.Got.{Got}
-use Rattle.rules_calls.specs.declared.Got.TheVariants as Got
 use Rattle.rules_calls.specs.State.{State, st, Way}
 use Rattle.rules_calls.specs.Standing.{standing}
 use Rattle.rules_calls.specs.FromLocals.{get_local, steal_local, demote_local}

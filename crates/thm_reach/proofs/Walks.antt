@@ -15,9 +15,7 @@ use Rattle.rules.specs.declared.Kind.TheVariants.{Invalid, Steal, Demote, Match}
 use Rattle.rules.specs.declared.Name.TheVariants.{Any}
 use Rattle.rules.specs.declared.Request.{Request}
 use Rattle.rules_calls.specs.declared.Got.{Got}
-use Rattle.rules_calls.specs.declared.Got.TheVariants as Got
 use Rattle.rules_calls.specs.declared.Walk.{Walk}
-use Rattle.rules_calls.specs.declared.Walk.TheVariants as Walk
 use Rattle.rules_calls.specs.State.{State, st, size, missed, or_else, with_look}
 use Rattle.rules_calls.specs.Walking.{walk_tree, at_once, rated_in, is_full, rate, Candidate, rated, insert, admit, access, Sight, sight, visit, walk, try_list, stopped, search_best}
 use Rattle.rules_calls.specs.Search.{near, rounded_start, search_far, search_from, search_and_reserve, search_and_steal}

@@ -3,7 +3,6 @@ use Rattle.std.specs.Prelude.{◌≡◌, true, false, ◌≢◌, ◌⊎◌, List
 use Rattle.rules.specs.Words.{Config, trees_of, locals_of, slot, entry_at, local_at}
 use Rattle.rules.specs.Policy.{kind_at}
 use Rattle.rules.specs.declared.Given.{Given}
-use Rattle.rules.specs.declared.Given.TheVariants as Given
 use Rattle.rules.specs.declared.Request.{Request}
 use Rattle.rules_calls.specs.Standing.{tree_on}
 

@@ -11,7 +11,6 @@ use Rattle.rules.specs.declared.Name.{Name}
 use Rattle.rules.specs.declared.Request.{Request}
 use Rattle.rules_calls.specs.declared.Outcome.{Outcome}
 use Rattle.rules_calls.specs.declared.Granted.{Granted}
-use Rattle.rules_calls.specs.declared.Granted.TheVariants as Granted
 use Rattle.rules_calls.specs.declared.Got.TheVariants as Got
 use Rattle.rules_calls.specs.State.{State, Way, st, with_bits}
 use Rattle.rules_calls.specs.Get.{routes}

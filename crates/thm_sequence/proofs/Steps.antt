@@ -15,9 +15,7 @@ use Rattle.rules.specs.declared.Name.{Name}
 use Rattle.rules.specs.declared.Request.{Request}
 use Rattle.rules.specs.declared.Tree.{Tree}
 use Rattle.rules_calls.specs.declared.Outcome.{Outcome}
-use Rattle.rules_calls.specs.declared.Outcome.TheVariants as Outcome
 use Rattle.rules_calls.specs.declared.Granted.{Granted}
-use Rattle.rules_calls.specs.declared.Granted.TheVariants as Granted
 use Rattle.rules_calls.specs.declared.Tally.{Tally}
 use Rattle.rules_calls.specs.declared.Totals.{Totals}
 use Rattle.rules_calls.specs.State.{st}

@@ -7,7 +7,6 @@ use Rattle.rules.specs.Words.{Config, tree_rows}
 use Rattle.rules.specs.Entries.{entry_unreserve}
 use Rattle.rules.specs.declared.Local.{Local}
 use Rattle.rules.specs.declared.Took.{Took}
-use Rattle.rules.specs.declared.Took.TheVariants as Took
 use Rattle.rules_calls.specs.State.{State, with_trees, on_took, unreserve, unreserve_local}
 
 -- whether it was taken back

@@ -8,9 +8,7 @@ use Rattle.rules.specs.Policy.{policy}
 use Rattle.rules.specs.Entries.{steal_of, steal_kind, reserve_of, reserve_kind}
 use Rattle.rules.specs.declared.Kind.{Kind}
 use Rattle.rules.specs.declared.Taken.{Taken}
-use Rattle.rules.specs.declared.Taken.TheVariants as Taken
 use Rattle.rules.specs.declared.Took.{Took}
-use Rattle.rules.specs.declared.Took.TheVariants as Took
 use Rattle.rules.specs.declared.Tree.{Tree}
 use Rattle.law_rules.specs.Cases.{below_or}
 

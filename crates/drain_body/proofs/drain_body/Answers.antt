@@ -1,7 +1,6 @@
 -- What the goals of `drain_body::drain_body` follow from. Assumes nothing.
 use mathlib.Core.Path.{refl}
 use borrow.Author.Rules.{rules}
-use borrow.Author.Tests.{not-true, not-false}
 use Rattle.rules_calls.specs.Calls.{number_of, outcome_of, on_drained, close_drain}
 use Rattle.drain_body.specs.Loops.{classes-end, classes-more}
 use Rattle.drain_body.proofs.drain_body.Goals as goal

@@ -3,7 +3,6 @@ use mathlib.Core.Path.{◌≡◌, refl, ◌∙◌}
 use Prim.Native.Nat.{◌-◌}
 use native.Mathlib.Omega.{arith}
 use borrow.Author.Rules.{rules}
-use borrow.Author.Tests.{not-true, not-false}
 use Rattle.drain_body.specs.Loops.{locals-end, locals-stuck, locals-next}
 use Rattle.drain_body.proofs.drain_class.Goals as goal
 

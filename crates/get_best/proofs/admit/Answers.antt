@@ -20,15 +20,15 @@ loop-k-preserved c =
     let t = c.loop-k-test.true in
     let p = c.requires.0 in
     elim c.if-inside.branch [
-      then-inside w ↦
-      let r = turn_in l.k n l.moving l.inside l.s t p i.1 i.2 w.if-inside.true w.s-is w.moving-is w.inside-is in
-      (search rules, r.0, r.1)
-    | else-inside+then-y-moving w ↦
-      let r = turn-swap l.k n l.moving l.inside l.s t p i.1 i.2 w.if-inside.false w.if-y-moving.true w.s-is w.moving-is w.inside-is in
-      (search rules, r.0, r.1)
-    | else-inside+else-y-moving w ↦
-      let r = turn-keep l.k n l.moving l.inside l.s t p i.1 i.2 w.if-inside.false w.if-y-moving.false w.s-is w.moving-is w.inside-is in
-      (search rules, r.0, r.1)
+      | then-inside w ↦
+          let r = turn_in l.k n l.moving l.inside l.s t p i.1 i.2 w.if-inside.true w.s-is w.moving-is w.inside-is in
+          (search rules, r.0, r.1)
+      | else-inside+then-y-moving w ↦
+          let r = turn-swap l.k n l.moving l.inside l.s t p i.1 i.2 w.if-inside.false w.if-y-moving.true w.s-is w.moving-is w.inside-is in
+          (search rules, r.0, r.1)
+      | else-inside+else-y-moving w ↦
+          let r = turn-keep l.k n l.moving l.inside l.s t p i.1 i.2 w.if-inside.false w.if-y-moving.false w.s-is w.moving-is w.inside-is in
+          (search rules, r.0, r.1)
     ]
 
 pub returns : goal.returns

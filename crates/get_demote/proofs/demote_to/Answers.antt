@@ -1,6 +1,5 @@
 -- `get_demote::demote_to` meets its contract. Assumes nothing.
 use Rattle.test_fits.specs.Fits.{given-small}
-use borrow.Author.Tests.{not-true, not-false}
 use native.Mathlib.Omega.{arith}
 use borrow.Author.Rules.{rules}
 use Rattle.get_demote.specs.Demoted.{displaced, displaced-stuck, itself, itself-stuck}

@@ -2,7 +2,6 @@
 use mathlib.Core.Path.{sym, ◌∙◌}
 use Rattle.get_routes.specs.Turns.{turn-steals, turn-own, turn-reserves}
 use Rattle.get_routes.specs.Start.{start_small}
-use borrow.Author.Tests.{not-true, not-false}
 use native.Mathlib.Omega.{arith}
 use Rattle.get_routes.proofs.search_trees.Goals as goal
 

@@ -1,11 +1,8 @@
 -- What the goals of `get_search_best::search_best` follow from. Assumes nothing.
-use mathlib.Core.Path.{◌≡◌, sym, ◌∙◌}
-use mathlib.Core.List.{List}
-use Prim.Native.Nat.{ℕ, ◌+◌, ◌-◌, ◌≤◌}
+use mathlib.Core.Path.{sym, ◌∙◌}
 use native.Mathlib.Omega.{arith}
-use lib.ListN.{length}
 use borrow.Author.Rules.{rules}
-use Rattle.rules_calls.specs.Walking.{on_sight, walk, stopped, search_best}
+use Rattle.rules_calls.specs.Walking.{on_sight, stopped, search_best}
 use Rattle.get_best.specs.List.{list-empty}
 use Rattle.get_ends.specs.Ends.{sight-ends}
 use Rattle.get_walk.specs.Walked.{walk_end, walk_ends, walk-goes}

@@ -21,7 +21,7 @@ invariant-loop-s l =
       len-l : length l.locals ≡ length l.initial.locals;
       len-b : length l.bits ≡ length l.initial.bits;
       walked : walk (config l.h l.table) l.q l.w l.j l.p.m l.p.n l.p.start l.s.at l.p.last (list_of l.p.m l.s.best) (st l.trees l.locals l.bits l.s.looks l.asked)
-        ≡ walk (config l.h l.table) l.q l.w l.j l.p.m l.p.n l.p.start l.p.first l.p.last [] (st l.initial.trees l.initial.locals l.initial.bits l.looks l.tries);
+          ≡ walk (config l.h l.table) l.q l.w l.j l.p.m l.p.n l.p.start l.p.first l.p.last [] (st l.initial.trees l.initial.locals l.initial.bits l.looks l.tries);
       next : l.s.at < l.p.last → rate (config l.h l.table) l.q l.w (entry_at l.trees (walk_tree l.p.n l.p.start l.s.at)) ≡ 258;
     }
 

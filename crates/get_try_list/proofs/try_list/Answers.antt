@@ -1,10 +1,7 @@
 -- What the goals of `get_try_list::try_list` follow from. Assumes nothing.
 use borrow.Author.Rules.{rules}
-use mathlib.Core.Path.{◌≡◌, refl, sym, ◌∙◌}
-use mathlib.Core.List.{List}
-use Prim.Native.Nat.{ℕ, ◌≤◌, ◌+◌}
+use mathlib.Core.Path.{refl, sym, ◌∙◌}
 use native.Mathlib.Omega.{arith}
-use lib.ListN.{length}
 use Rattle.rules_calls.specs.Walking.{try_list}
 use Rattle.get_best.specs.List.{from_first, from-none, from_more, from_end}
 use Rattle.get_ends.specs.Ends.{else-ends, else-goes}

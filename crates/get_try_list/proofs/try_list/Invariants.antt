@@ -19,7 +19,7 @@ invariant-loop-k l =
       len-l : length l.locals ≡ length l.initial.locals;
       len-b : length l.bits ≡ length l.initial.bits;
       same-list : try_list (config l.h l.table) l.q l.w l.j (list_from l.k l.m l.best) (st l.trees l.locals l.bits l.seen l.asked)
-        ≡ try_list (config l.h l.table) l.q l.w l.j (list_of l.m l.best) (st l.initial.trees l.initial.locals l.initial.bits l.looks l.tries);
+          ≡ try_list (config l.h l.table) l.q l.w l.j (list_of l.m l.best) (st l.initial.trees l.initial.locals l.initial.bits l.looks l.tries);
     }
 
 abbrev pub decreases-loop-k : goal.decreases-loop-k

@@ -1,9 +1,8 @@
 -- What the goals of `lower_words::held_words` follow from. Assumes nothing.
 use borrow.Author.Rules.{rules}
 use mathlib.Core.Path.{◌≡◌, sym}
-use Prim.Native.Nat.{◌*◌, ◌+◌, ◌<◌, ◌^◌}
+use Prim.Native.Nat.{◌*◌, ◌+◌}
 use native.Mathlib.Omega.{arith}
-use lib.ListN.{get_or}
 use lib.Count.{ones-le}
 use Rattle.law_rules.specs.Sum.{sum-none}
 use Rattle.rules.specs.Lower.{held, bit}

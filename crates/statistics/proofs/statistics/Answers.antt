@@ -6,7 +6,7 @@ use Prim.Native.Nat.{ℕ}
 use borrow.Author.Rules.{rules}
 use lib.Dec.{T}
 use lib.ListN.{length}
-use Rattle.rules.specs.Words.{Config, config}
+use Rattle.rules.specs.Words.{Config}
 use Rattle.rules_calls.specs.Statistics.{told_totals, statistics}
 use Rattle.rules_calls.specs.declared.Tally.{Tally}
 use Rattle.stats_rows.specs.Rows.{row_list, stores, stores-all}

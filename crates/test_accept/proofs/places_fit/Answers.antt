@@ -1,6 +1,5 @@
 -- What the goals of `test_accept::places_fit` follow from. Assumes nothing.
 use mathlib.Core.Path.{sym}
-use mathlib.Core.Bool.{true}
 use borrow.Author.Rules.{rules}
 use borrow.Author.Tests.{le-leb, lt-leb}
 use Rattle.law_rules.specs.All.{all_none, all_more, all-fails, all_done}

@@ -1,9 +1,8 @@
 -- What the goals of `test_accept_pairs::covers` follow from. Assumes nothing.
 use mathlib.Core.Path.{sym, ◌∙◌}
-use mathlib.Core.Bool.{true}
 use borrow.Author.Rules.{rules}
 use Rattle.law_rules.specs.All.{all_none, all_more, all-fails, all_done}
-use Rattle.law_rules.specs.Rows.{pair_covered, covers}
+use Rattle.law_rules.specs.Rows.{covers}
 use Rattle.test_accept_pairs.proofs.covers.Goals as goal
 
 pub loop-f-init : goal.loop-f-init

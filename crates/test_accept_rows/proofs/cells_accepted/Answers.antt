@@ -1,9 +1,7 @@
 -- What the goals of `test_accept_rows::cells_accepted` follow from. Assumes nothing.
 use mathlib.Core.Path.{sym, ◌∙◌}
-use mathlib.Core.Bool.{true}
 use borrow.Author.Rules.{rules}
 use Rattle.law_rules.specs.All.{all_none, all_more, all-fails, all_done}
-use Rattle.law_rules.specs.Rows.{cell_accepted}
 use Rattle.test_accept_rows.proofs.cells_accepted.Goals as goal
 
 pub loop-e-init : goal.loop-e-init

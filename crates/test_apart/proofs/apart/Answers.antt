@@ -1,6 +1,5 @@
 -- What the goals of `test_apart::apart` follow from. Assumes nothing.
 use mathlib.Core.Path.{sym, ◌∙◌}
-use mathlib.Core.Bool.{true}
 use borrow.Author.Rules.{rules}
 use borrow.Author.Tests.{eqb-true}
 use Rattle.law_rules.specs.All.{all_none, all-fails, all_done}
@@ -32,12 +31,12 @@ loop-j-preserved c =
     let l = c.load-l in
     let i = c.loop-j.invariant.1 in
     elim c.if-l.branch [
-      then-l+else-not-is_free w ↦ (
+      | then-l+else-not-is_free w ↦ (
         search rules,
         present-turn 11 c.args.locals.now c.loop-j.j c.loop-j.marks c.if-l.marks l.result l.ensures.0 w.if-l.true
-        (c.requires _ c.loop-j-test.true (rw (← c.load-l.ensures.0) w.if-l.true)) (sym w.is_free.ensures ∙ w.if-not-is_free.false) (w.marks-is ∙ w.hold.ensures) i.1 i.0,
+            (c.requires _ c.loop-j-test.true (rw (← c.load-l.ensures.0) w.if-l.true)) (sym w.is_free.ensures ∙ w.if-not-is_free.false) (w.marks-is ∙ w.hold.ensures) i.1 i.0,
       )
-    | else-l w ↦ (search rules, absent-turn 11 c.args.locals.now c.loop-j.j c.loop-j.marks c.if-l.marks l.result l.ensures.0 w.if-l.false w.marks-is i.1 i.0)
+      | else-l w ↦ (search rules, absent-turn 11 c.args.locals.now c.loop-j.j c.loop-j.marks c.if-l.marks l.result l.ensures.0 w.if-l.false w.marks-is i.1 i.0)
     ]
 
 pub returns : goal.returns

@@ -1,8 +1,6 @@
 -- What the goals of `test_entries::entries_stand` follow from. Assumes nothing.
 use mathlib.Core.Path.{refl, sym, ◌∙◌}
-use mathlib.Core.Bool.{true}
 use borrow.Author.Rules.{rules}
-use Rattle.rules_calls.specs.Standing.{entry_stands}
 use Rattle.law_rules.specs.All.{all_none, all_more, all-fails, all_done}
 use Rattle.test_entries.proofs.entries_stand.Goals as goal
 

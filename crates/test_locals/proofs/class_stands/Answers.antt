@@ -1,10 +1,9 @@
 -- What the goals of `test_locals::class_stands` follow from. Assumes nothing.
 use mathlib.Core.Path.{sym, ◌∙◌}
-use mathlib.Core.Bool.{true}
 use borrow.Author.Rules.{rules}
 use native.Mathlib.Omega.{arith}
 use Rattle.rules.specs.Words.{slot}
-use Rattle.rules_calls.specs.Standing.{local_stands, class_stands}
+use Rattle.rules_calls.specs.Standing.{class_stands}
 use Rattle.law_rules.specs.All.{all_none, all_more, all-fails, all_done}
 use Rattle.test_locals.proofs.class_stands.Goals as goal
 

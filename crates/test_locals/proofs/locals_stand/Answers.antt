@@ -1,10 +1,8 @@
 -- What the goals of `test_locals::locals_stand` follow from. Assumes nothing.
 use mathlib.Core.Path.{sym, ◌∙◌}
-use mathlib.Core.Bool.{true}
 use native.Mathlib.Omega.{arith}
 use borrow.Author.Rules.{rules}
 use Rattle.rules.specs.Words.{locals_of}
-use Rattle.rules_calls.specs.Standing.{class_stands}
 use Rattle.law_rules.specs.All.{all_none, all_more, all-fails, all_done}
 use Rattle.law_rules.specs.Sum.{sum-none, sum_more}
 use Rattle.test_locals.proofs.locals_stand.Goals as goal

@@ -1,7 +1,6 @@
 -- `word_entry_takes::reserve_or_steal` meets its contract. Assumes nothing.
 use mathlib.Core.Path.{refl}
 use native.Mathlib.Omega.{arith}
-use borrow.Author.Tests.{not-true, not-false}
 use Rattle.rules.specs.Entries.{reserve_kind}
 use Rattle.word_entry_takes.specs.Yield.{yields-enough, reserve-refused, reserve-by}
 use Rattle.word_entry_takes.proofs.reserve_or_steal.Goals as goal

@@ -1,7 +1,6 @@
 -- `word_entry_takes::steal` meets its contract. Assumes nothing.
 use mathlib.Core.Path.{refl}
 use native.Mathlib.Omega.{arith}
-use borrow.Author.Tests.{not-true, not-false}
 use Rattle.rules.specs.Entries.{steal_kind}
 use Rattle.word_entry_takes.specs.Yield.{yields-enough, steal-refused, steal-by}
 use Rattle.word_entry_takes.proofs.steal.Goals as goal
