@@ -1,2 +1,2 @@
-// Demand 3 for the calls of the archive: in specs/. No function.
+// Demand 3 for the calls of the archive: the chains are in specs/, the proof is in proofs/. No function.
 #![tactic(auto)]

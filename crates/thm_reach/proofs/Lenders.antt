@@ -32,7 +32,7 @@ use Rattle.law_calls.specs.Payers.{Pays, Nobody, payer-both, pay-kind, move-kind
 use Rattle.thm_hand.specs.Locals.{load_same, local-room}
 use Rattle.thm_keeps.specs.Fine.{Asks}
 use Rattle.thm_reach.specs.Reach.{Lends, Reachable, ReachedBy}
-use Rattle.thm_reach.proofs.Ends.{Ends, one, local-clear, ask_lower-gives}
+use Rattle.thm_reach.specs.Ends.{Ends, one, local-clear, ask_lower-gives}
 
 module _ (c : Config) (sz : Size c.tree_order) (q : Request) (A : Asks c q Any) (single : q.order ≡ 0) (ts ls bs : List ℕ) (K : Kept c ts ls bs) where
   -- locals of class e are empty

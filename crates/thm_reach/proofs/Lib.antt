@@ -1,7 +1,5 @@
--- where each route ends
-pub mod Ends
+-- where each further route ends
 pub mod Walks
-pub mod Own
 pub mod Lenders
 -- the theorem, what is out of reach, and the promise
 pub mod Memory

@@ -9,7 +9,6 @@ use Rattle.std.proofs.Math.ListN.{get_or-eq_default}
 use borrow.Author.Tests.{ltb-true, ltb-false}
 use Rattle.rules.specs.Base.{out}
 use Rattle.rules.specs.Words.{Config, trees_of, locals_of, slot, tree_of, local_of, entry_at, local_at}
-use Rattle.rules.specs.Policy.{kind_at}
 use Rattle.rules.specs.declared.Name.TheVariants.{Any}
 use Rattle.rules.specs.declared.Given.{Given}
 use Rattle.rules.specs.declared.Request.{Request}
@@ -33,10 +32,11 @@ use Rattle.thm_keeps.specs.Fine.{Asks}
 use Rattle.thm_keeps.specs.Asked.{asks}
 use Rattle.thm_keeps.specs.Calls.{get_keeps, drain-keeps}
 use Rattle.thm_keeps.specs.Standing.{TreeWords, test-kept, kept_test}
+use Rattle.thm_reach.specs.OutOfReach.{FreeTreesInvalid}
 use Rattle.thm_reach.specs.Reach.{Lends, OwnAsked, Reachable, ReachedBy, Unreachable}
-use Rattle.thm_reach.proofs.Ends.{Ends, ends-map, else-ends}
+use Rattle.thm_reach.specs.Ends.{Ends, ends-map, else-ends}
 use Rattle.thm_reach.proofs.Walks.{NoTree, search_and_steal-ends, search_and_reserve-ends}
-use Rattle.thm_reach.proofs.Own.{Spent, own-ends}
+use Rattle.thm_reach.specs.Own.{Spent, own-ends}
 use Rattle.thm_reach.proofs.Lenders.{EmptyClass, NoneSteals, NoneMoves, steal_local-ends, demote_local-ends}
 
 -- what is unreachable is not reachable
@@ -147,10 +147,6 @@ module _ (c : Config) (sz : Size c.tree_order) (t l b : List ℕ) (w : TreeWords
   memory-unchanged n = ⊎_elim (λ x. x.1.1) (λ x. absurd (x.0 n)) decided
 
 -- ---- directly after a drain
-
--- every tree whose entry has a free frame is Invalid for class k
-abbrev pub FreeTreesInvalid : Config → List ℕ → ℕ → Type 0
-FreeTreesInvalid c ts k = (t : ℕ) → t < trees_of c → 0 < (entry_at ts t).free → kind_at c k (entry_at ts t).class ≡ 0
 
 -- the tree words of a state that keeps the rules have 32 bits
 pub kept-words : (c : Config) (ts ls bs : List ℕ) → Kept c ts ls bs → TreeWords ts

@@ -30,7 +30,7 @@ use Rattle.law_calls.specs.Walks.{walk_tree-lt, Every, every-admit, tried-ind, v
 use Rattle.thm_keeps.specs.Fine.{Asks}
 use Rattle.thm_reach.specs.Reach.{Reachable, ReachedBy}
 use Rattle.law_calls.specs.EveryTree.{every-tree}
-use Rattle.thm_reach.proofs.Ends.{Ends, ends-map, else-ends, Takes, one, access-gives}
+use Rattle.thm_reach.specs.Ends.{Ends, ends-map, else-ends, Takes, one, access-gives}
 
 -- a list has no tree
 abbrev NoneListed : List Candidate → Type 0

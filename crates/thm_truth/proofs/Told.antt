@@ -1,30 +1,25 @@
 -- What the call `statistics` tells of a state that passes the standing rules. Assumes nothing.
-use Rattle.std.specs.Prelude.{◌≡◌, true, List, [], ◌∷◌, eqb, length, get_or}
+use Rattle.std.specs.Prelude.{◌≡◌, true, List, eqb, length, get_or}
 use Rattle.std.proofs.Math.Path.{refl, sym, ap}
 use Rattle.std.proofs.Common.{◌∙◌, subst, not-suc-le-zero, le_of_suc-le-suc, eq-eqb}
-use Prim.Native.Nat.{ℕ, zero, suc, ◌+◌, ◌*◌, ◌<◌}
+use Prim.Native.Nat.{ℕ, zero, suc, ◌+◌, ◌<◌}
 use native.Mathlib.Omega.{arith}
 use Rattle.rules.specs.Base.{sum}
-use Rattle.rules.specs.Words.{Config, config, tree_frames}
-use Rattle.rules.specs.Lower.{held}
+use Rattle.rules.specs.Words.{Config, config}
 use Rattle.rules.specs.declared.Header.{Header}
 use Rattle.rules_calls.specs.declared.Tally.{Tally}
 use Rattle.rules_calls.specs.declared.Totals.{Totals}
 use Rattle.rules_calls.specs.Standing.{standing}
 use Rattle.rules_calls.specs.Calls.{outcome_of}
-use Rattle.rules_calls.specs.Statistics.{over_class, in_use, tally, tallies, Report, reporting, statistics}
+use Rattle.rules_calls.specs.Statistics.{in_use, tally, tallies, reporting, statistics}
 use Rattle.rules_calls.specs.Promises.{Words, StatisticsPromise}
 use Rattle.law_rules.specs.Sum.{sum-none, sum_one, sum-add}
 use Rattle.law_rules.specs.Sizes.{Size, size-eleven}
 use Rattle.law_rules.specs.All.{true-false}
 use Rattle.law_calls.specs.Steps.{ifte-ind}
 use Rattle.thm_keeps.specs.Standing.{TreeWords}
-use Rattle.thm_truth.specs.Truth.{free_frames, total-free, rows-free, in-use-held}
-
--- the free of all rows
-unfoldable pub free_of : List Tally → ℕ
-free_of [] = 0
-free_of (r ∷ rows) = r.free + free_of rows
+use Rattle.thm_truth.specs.Truthful.{free_of, Truthful}
+use Rattle.thm_truth.specs.Truth.{total-free, rows-free, in-use-held}
 
 module _ (c : Config) (ts ls : List ℕ) where
   -- the row of each class
@@ -46,18 +41,6 @@ module _ (c : Config) (ts ls : List ℕ) where
       let o : 1 + n ≡ suc n = omega arith in
       let a : sum (λ i. (tally c ts ls i).free) k (suc n) ≡ sum (λ i. (tally c ts ls i).free) k 1 + sum (λ i. (tally c ts ls i).free) (k + 1) n = ap (sum (λ i. (tally c ts ls i).free) k) (sym o) ∙ sum-add (λ i. (tally c ts ls i).free) k 1 n in
       omega (arith, a, sum_one (λ i. (tally c ts ls i).free) k, tallies-free (k + 1) n)
-
--- what a report says of the words that were lent to read
-pub record Truthful (c : Config) (ts ls bs : List ℕ) (r : Report) : Type 0 where
-  -- Done
-  pub number : r.number ≡ 0
-  -- total free is the number of frames below F whose bit is 0
-  pub free : r.free ≡ free_frames bs c.frames
-  -- there are eight rows, and their free sums to it
-  pub eight : length r.rows ≡ 8
-  pub rows : free_of r.rows ≡ free_frames bs c.frames
-  -- in use of a class: the frames of its trees whose bit is 1
-  pub used : (k : ℕ) (d : Tally) → k < 8 → (get_or r.rows k d).used ≡ over_class c ts k (λ t. held bs (t * tree_frames c.tree_order) (tree_frames c.tree_order))
 
 pub statistics-true : (c : Config) → Size c.tree_order → (ts ls bs : List ℕ) (rows : List Tally) → TreeWords ts → standing c ts ls bs ≡ true → length rows ≡ 8
     → Truthful c ts ls bs (statistics c ts ls bs rows)

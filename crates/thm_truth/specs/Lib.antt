@@ -2,3 +2,5 @@
 pub mod Sums
 -- what the figures are
 pub mod Truth
+-- what a report says
+pub mod Truthful

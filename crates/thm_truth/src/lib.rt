@@ -1,2 +1,2 @@
-// What statistics tell of a state that passes the standing rules: in specs/. No function.
+// What statistics tell of a state that passes the standing rules: in specs/; of the call itself, in proofs/. No function.
 #![tactic(auto)]

@@ -26,7 +26,7 @@ use Rattle.law_calls.specs.Steps.{ifte-ind, held-ind, found-ind, sync-ind, put-i
 use Rattle.thm_hand.specs.Here.{on-holds}
 use Rattle.thm_hand.specs.Locals.{load_same}
 use Rattle.thm_keeps.specs.Fine.{Asks}
-use Rattle.thm_reach.proofs.Ends.{Ends, one, entry-clear, local-clear, lower-gives}
+use Rattle.thm_reach.specs.Ends.{Ends, one, entry-clear, local-clear, lower-gives}
 
 -- a present local in slot j is empty, and its tree's entry has at most one frame
 abbrev pub Spent : Config → List ℕ → List ℕ → ℕ → Type 0
