@@ -1,4 +1,5 @@
 -- `test_accept::accepts` meets its contract. Assumes nothing.
+use native.Mathlib.Omega.{arith}
 use Rattle.test_accept.specs.Accepts.{by_rows, misfit, no-class, no-frame, too_many, unconfigured}
 use Rattle.test_accept.proofs.accepts.Goals as goal
 
@@ -6,12 +7,12 @@ pub returns-then-h-lt1 : goal.returns-then-h-lt1
 returns-then-h-lt1 c = no-frame _ _ c.if-h-lt1.true
 
 pub returns-then-h-gt2097152 : goal.returns-then-h-gt2097152
-returns-then-h-gt2097152 c = too_many _ _ c.if-h-lt1.false c.if-h-gt2097152.true
+returns-then-h-gt2097152 c = too_many _ _ (omega arith) c.if-h-gt2097152.true
 
 pub returns-then-configured_in : goal.returns-then-configured_in
 returns-then-configured_in c =
     by_rows _ _
-    c.if-h-lt1.false
+    (omega arith)
     c.if-h-gt2097152.false
     c.places_fit.ensures
     c.if-places_fit.true
@@ -23,7 +24,7 @@ returns-then-configured_in c =
 pub returns-then-h-lt8 : goal.returns-then-h-lt8
 returns-then-h-lt8 c =
     unconfigured _ _
-    c.if-h-lt1.false
+    (omega arith)
     c.if-h-gt2097152.false
     c.places_fit.ensures
     c.if-places_fit.true
@@ -34,7 +35,7 @@ returns-then-h-lt8 c =
 pub returns-then-places_fit : goal.returns-then-places_fit
 returns-then-places_fit c =
     no-class _ _
-    c.if-h-lt1.false
+    (omega arith)
     c.if-h-gt2097152.false
     c.places_fit.ensures
     c.if-places_fit.true
@@ -43,7 +44,7 @@ returns-then-places_fit c =
 pub returns : goal.returns
 returns c =
     misfit _ _
-    c.if-h-lt1.false
+    (omega arith)
     c.if-h-gt2097152.false
     c.places_fit.ensures
     c.if-places_fit.false
