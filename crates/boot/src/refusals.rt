@@ -2,16 +2,16 @@
 // has none.
 ghost use Rattle.std.specs.Prelude.{◌<◌};
 
-use rules::{Given, Header, Name, Request};
+use rules::{Header, Request};
 use rules_calls::{Granted, Reply};
 
 // The frame that the get names: the one past the last, one that is no multiple of 2, one that is held, or none.
-fn name(frames: usize, n: usize) -> Name {
+fn name(frames: usize, n: usize) -> Option<usize> {
     match n {
-        3 => Name::Frame(frames),
-        4 => Name::Frame(1),
-        7 => Name::Frame(0),
-        _ => Name::Any,
+        3 => Some(frames),
+        4 => Some(1),
+        7 => Some(0),
+        _ => None,
     }
 }
 
@@ -33,10 +33,10 @@ fn class(n: usize) -> usize {
 }
 
 // The local that it gives: a class has 0 and 1.
-fn local(n: usize) -> Given {
+fn local(n: usize) -> Option<usize> {
     match n {
-        6 => Given::Local(2),
-        _ => Given::Nothing,
+        6 => Some(2),
+        _ => None,
     }
 }
 
@@ -147,7 +147,7 @@ fn hold_first(
 ) {
     let started = start::start(h, table, trees, locals, bits, true);
     boot_says::outcome(b"start", started);
-    let first = Name::Frame(0);
+    let first = Some(0);
     let reply = get::get(h, table, trees, locals, bits, first, request(0));
     boot_says::call(b"get of frame 0|", 0, number(reply));
 }

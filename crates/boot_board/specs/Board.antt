@@ -1,12 +1,11 @@
 -- The board's configuration: a start accepts it, and no get of the loader is refused for its arguments. Assumes nothing.
-use Rattle.std.specs.Prelude.{◌≡◌, refl, true, false, List, ℕ, zero, suc, ◌+◌, ◌^◌, ◌≤◌, ◌<◌, replicate, ltb}
+use Rattle.std.specs.Prelude.{◌≡◌, refl, true, false, List, ℕ, zero, suc, ◌+◌, ◌^◌, ◌≤◌, ◌<◌, replicate, ltb, Some}
 use Rattle.std.proofs.Common.{sym, subst, arith, pow_mono, le-ltb}
 use Rattle.std.proofs.Math.Nat.{zero-mod}
 use Rattle.rules.specs.Base.{both, ifte, all_below, sum}
 use Rattle.rules.specs.Words.{Config, config, tree_count, configured, locals_of, local_count}
 use Rattle.rules.specs.Policy.{pair_of, kind_of, cut_of, kind_at, good, pair_formed, pair_accepted, table_formed, rules_at, table_rules, frames_accepted, places_accepted, default_accepted, accepted}
 use Rattle.rules.specs.declared.Header.{Header}
-use Rattle.rules.specs.declared.Given.TheVariants as Given
 use Rattle.rules_calls.specs.Standing.{lengths_exact}
 use Rattle.rules_calls.specs.Calls.{refuse_local, refuse_class, refusal, start}
 use Rattle.rules_calls.specs.Examples.{table_t}
@@ -40,7 +39,7 @@ pub starts : (c : Config) (t l b : List ℕ) → Ready c t l b → (start c true
 unfolding start ifte
 starts c t l b r = rw r
 
-own : (f o k i : ℕ) → k < 2 → i < 2 → refuse_class (board f) (record { order = o; class = k; local = Given.Local i }) ≡ 0
+own : (f o k i : ℕ) → k < 2 → i < 2 → refuse_class (board f) (record { order = o; class = k; local = Some i }) ≡ 0
 unfolding refuse_class refuse_local configured locals_of
 own f o zero zero hk hi = refl
 own f o zero (suc zero) hk hi = refl
@@ -52,7 +51,7 @@ own f o (suc (suc k)) i hk hi = omega arith
 
 -- a get with no name, of order up to 11, for class 0 or 1 with local 0 or 1, is not refused for its arguments
 pub fits : (f o k i : ℕ) → 2048 ≤ f → o < 12 → k < 2 → i < 2
-    → refusal (board f) (record { order = o; class = k; local = Given.Local i }) 0 ≡ 0
+    → refusal (board f) (record { order = o; class = k; local = Some i }) 0 ≡ 0
 unfolding refusal ifte
 fits f o k i hf ho hk hi =
     let low : ltb 11 o ≡ false = le-ltb 11 o (omega arith) in

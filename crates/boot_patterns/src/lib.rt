@@ -6,7 +6,7 @@ ghost use Rattle.rules_calls.specs.Calls.{refusal};
 ghost use Rattle.boot_board.specs.Board.{board};
 ghost use Rattle.boot_patterns.specs.Patterns.{frames_of};
 
-use rules::{Given, Request};
+use rules::Request;
 
 // The picture and the two overlays that lie over it.
 #[derive(Clone, Copy)]
@@ -81,6 +81,6 @@ pub fn request(p: Pattern, order: usize) -> Request
     Request {
         order: order,
         class: class(p),
-        local: Given::Local(local(p)),
+        local: Some(local(p)),
     }
 }

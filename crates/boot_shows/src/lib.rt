@@ -5,7 +5,7 @@ ghost use Rattle.std.specs.Prelude.{◌≡◌, true};
 ghost use Rattle.boot_patterns.specs.Patterns.{frames_of};
 
 use boot_patterns::Pattern;
-use rules::{Header, Name};
+use rules::Header;
 use rules_calls::Granted;
 
 // What is held of a pattern: whether it is whole, and how many frames. The binary digits of that number are the orders of the blocks; the block
@@ -38,7 +38,7 @@ fn take(
             continue;
         }
         let q = boot_patterns::request(p, order);
-        let reply = get::get(h, table, trees, locals, bits, Name::Any, q);
+        let reply = get::get(h, table, trees, locals, bits, None, q);
         boot_says::got(p, order, reply);
         let granted = reply.granted;
         let Granted::Done { frame, class: _ } = granted else {

@@ -1,7 +1,7 @@
 // Exported names for the bench alone: thin calls of single parts. The product's archive has none of them.
 #![tactic(auto)]
 
-use rules::{Found, Header, Name};
+use rules::Header;
 
 // The clear bits of the whole trees of a bitmap.
 #[unsafe(no_mangle)]
@@ -17,10 +17,7 @@ pub extern "C" fn bench_clear(words: &[u64]) -> usize {
 // The lower's get of order 0 of any frame from a hint row on: the frame, or 2^64 - 1 where there is none.
 #[unsafe(no_mangle)]
 pub extern "C" fn bench_lower_get(words: &mut [u64], row: usize) -> usize {
-    match lower::lower_get(words, row, 0, Name::Any) {
-        Found::At(f) => f,
-        Found::Nothing => 0xffff_ffff_ffff_ffff,
-    }
+    lower::lower_get(words, row, 0, None).unwrap_or(0xffff_ffff_ffff_ffff)
 }
 
 // The acceptance test.

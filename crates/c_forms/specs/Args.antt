@@ -1,19 +1,16 @@
 -- The arguments of the exported calls as the rules' own: a frame that is named or not, a local that is given or not. Assumes nothing.
-use Rattle.std.specs.Prelude.{Bool, true, false, ℕ}
-use Rattle.rules.specs.declared.Name.{Name}
-use Rattle.rules.specs.declared.Name.TheVariants.{Any, Frame}
-use Rattle.rules.specs.declared.Given.{Given}
+use Rattle.std.specs.Prelude.{Bool, true, false, ℕ, Option, Some, None}
 use Rattle.rules.specs.declared.Request.{Request}
 
 -- the frame that a get names, if it names one
-unfoldable pub name_of : Bool → ℕ → Name
-name_of true f = Frame f
-name_of false f = Any
+unfoldable pub name_of : Bool → ℕ → Option ℕ
+name_of true f = Some f
+name_of false f = None
 
 -- the local that a call gives, if it gives one
-unfoldable pub given_of : Bool → ℕ → Given
-given_of true i = Given.Local i
-given_of false i = Given.Nothing
+unfoldable pub given_of : Bool → ℕ → Option ℕ
+given_of true i = Some i
+given_of false i = None
 
 -- what a get or a put asks for
 abbrev pub asking : ℕ → ℕ → Bool → ℕ → Request

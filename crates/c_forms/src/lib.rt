@@ -5,7 +5,7 @@ ghost use Rattle.std.specs.Prelude.{◌≡◌};
 ghost use Rattle.c_forms.specs.Args.{name_of, given_of, asking};
 ghost use Rattle.c_forms.specs.Summary.{summary_of};
 
-use rules::{Given, Name, Request};
+use rules::Request;
 use rules_calls::Totals;
 
 // What statistics answer beside the lent rows: the number, total free, free trees.
@@ -18,23 +18,23 @@ pub struct Summary {
 }
 
 // The frame that a get names, if it names one.
-pub fn name_of(named: bool, frame: usize) -> Name
+pub fn name_of(named: bool, frame: usize) -> Option<usize>
     ensures { result ≡ name_of named frame }
 {
     if named {
-        return Name::Frame(frame);
+        return Some(frame);
     }
-    Name::Any
+    None
 }
 
 // The local that a call gives, if it gives one.
-fn given_of(given: bool, local: usize) -> Given
+fn given_of(given: bool, local: usize) -> Option<usize>
     ensures { result ≡ given_of given local }
 {
     if given {
-        return Given::Local(local);
+        return Some(local);
     }
-    Given::Nothing
+    None
 }
 
 // What a get or a put asks for.

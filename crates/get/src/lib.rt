@@ -3,7 +3,7 @@
 
 ghost use Rattle.rules_calls.specs.Promises.{words, GetPromise};
 
-use rules::{Header, Name, Request};
+use rules::{Header, Request};
 use rules_calls::{Outcome, Refusal, Reply};
 
 // A get, of the named frame or of any.
@@ -13,7 +13,7 @@ pub fn get(
     trees: &mut [u32],
     locals: &mut [u64],
     bits: &mut [u64],
-    name: Name,
+    name: Option<usize>,
     q: Request,
 ) -> Reply
     ensures { GetPromise h table.now name q (words trees.old locals.old bits.old)

@@ -8,7 +8,7 @@ ghost use Rattle.rules_calls.specs.FromLocals.{demote_to, demote_local};
 ghost use Rattle.test_fits.specs.Fits.{Fits};
 ghost use Rattle.test_fits.specs.Room.{Room};
 
-use rules::{Given, Header, Local, Name, Payer, Request};
+use rules::{Header, Local, Request};
 use rules_calls::Routed;
 
 // The reservation l moves to the given local and the displaced one is unreserved, or with no local it is unreserved itself; then the lower is asked.
@@ -19,7 +19,7 @@ fn demote_to(
     locals: &mut [u64],
     bits: &mut [u64],
     q: Request,
-    name: Name,
+    name: Option<usize>,
     l: Local,
     looks: usize,
     tries: usize,
@@ -31,14 +31,14 @@ fn demote_to(
 {
     let local = q.local;
     match local {
-        Given::Local(i) => {
+        Some(i) => {
             let old = local_words::swap(locals, word_header::slot(h, q.class, i), l);
             if !tree_returns::unreserve_local(h, table, trees, q.class, old) {
                 return get_ends::stuck(looks, tries);
             }
             get_steps::ask_lower(h, table, trees, bits, q, name, l.row, q.class, looks, tries)
         }
-        Given::Nothing => {
+        None => {
             if !tree_returns::unreserve(h, table, trees, l.row / 32, q.class, l.free) {
                 return get_ends::stuck(looks, tries);
             }
@@ -55,7 +55,7 @@ pub fn demote_local(
     locals: &mut [u64],
     bits: &mut [u64],
     q: Request,
-    name: Name,
+    name: Option<usize>,
     looks: usize,
     tries: usize,
 ) -> Routed
@@ -67,11 +67,10 @@ pub fn demote_local(
     let local = q.local;
     let i = get_steps::index_of(local);
     let n = word_sizes::size(q.order);
-    let payer = local_payers::demote_any(h, table, locals, q.class, i, name, n);
-    let Payer::Local { class: _, slot } = payer else {
+    let Some(payer) = local_payers::demote_any(h, table, locals, q.class, i, name, n) else {
         return get_ends::missed(looks, tries);
     };
-    local_frames::pay(locals, slot, n);
-    let l = local_words::clear(locals, slot);
+    local_frames::pay(locals, payer.slot, n);
+    let l = local_words::clear(locals, payer.slot);
     demote_to(h, table, trees, locals, bits, q, name, l, looks, tries)
 }

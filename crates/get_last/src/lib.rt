@@ -9,7 +9,7 @@ ghost use Rattle.rules_calls.specs.Get.{last_routes};
 ghost use Rattle.test_fits.specs.Fits.{Fits};
 ghost use Rattle.test_fits.specs.Room.{Room};
 
-use rules::{Header, Name, Payer, Request};
+use rules::{Header, Request};
 use rules_calls::Routed;
 
 // Steal from locals: over classes c, c+1, .. modulo 8 whose kind is Steal or Match. The first with enough pays, and its class is answered.
@@ -20,7 +20,7 @@ fn steal_local(
     locals: &mut [u64],
     bits: &mut [u64],
     q: Request,
-    name: Name,
+    name: Option<usize>,
     looks: usize,
     tries: usize,
 ) -> Routed
@@ -32,12 +32,11 @@ fn steal_local(
     let local = q.local;
     let i = get_steps::index_of(local);
     let n = word_sizes::size(q.order);
-    let payer = local_payers::steal_any(h, table, locals, q.class, i, name, n);
-    let Payer::Local { class, slot } = payer else {
+    let Some(payer) = local_payers::steal_any(h, table, locals, q.class, i, name, n) else {
         return get_ends::missed(looks, tries);
     };
-    let row = local_frames::pay(locals, slot, n);
-    get_steps::ask_lower(h, table, trees, bits, q, name, row, class, looks, tries)
+    let row = local_frames::pay(locals, payer.slot, n);
+    get_steps::ask_lower(h, table, trees, bits, q, name, row, payer.class, looks, tries)
 }
 
 // Steal from locals, then demote.
@@ -48,7 +47,7 @@ pub fn last_routes(
     locals: &mut [u64],
     bits: &mut [u64],
     q: Request,
-    name: Name,
+    name: Option<usize>,
     looks: usize,
     tries: usize,
 ) -> Routed

@@ -8,7 +8,7 @@ ghost use Rattle.rules_calls.specs.Get.{get_at};
 ghost use Rattle.test_fits.specs.Fits.{Fits};
 ghost use Rattle.test_fits.specs.Room.{Room};
 
-use rules::{Header, Name, Request};
+use rules::{Header, Request};
 use rules_calls::Routed;
 
 // Named frame: own local if given; steal globally from its tree; steal from locals; demote.
@@ -29,7 +29,7 @@ pub fn get_at(
         × ((result.looks ≤ looks) × (result.tries ≤ tries + 4)) }
 {
     let local = q.local;
-    let name = Name::Frame(f);
+    let name = Some(f);
     let a = get_own::own_local(h, table, trees, locals, bits, q, name, local, looks, tries);
     let got = a.got;
     if get_ends::ends(got) {

@@ -1,22 +1,21 @@
 -- Take and top up in the terms of the code: the local's answer, and then its parts; no sync left, or one. Assumes nothing.
-use Rattle.std.specs.Prelude.{◌≡◌}
+use Rattle.std.specs.Prelude.{◌≡◌, Option}
 use Rattle.std.proofs.Math.Path.{refl}
 use Prim.Native.Nat.{ℕ, zero, suc, ◌-◌, ◌/◌}
 use native.Mathlib.Omega.{arith}
 use Rattle.rules.specs.Words.{Config, tree_rows}
 use Rattle.rules.specs.Locals.{local_take}
-use Rattle.rules.specs.declared.Name.{Name}
 use Rattle.rules.specs.declared.Request.{Request}
 use Rattle.rules_calls.specs.State.{State, Way, size, on_held, missed, missed_at}
 use Rattle.rules_calls.specs.FromLocals.{take_by, top_by, top_up, get_local}
 use Rattle.get_own_row.specs.Own.{at_row}
 
-pub take-parts : (up : ℕ → ℕ → State → Way) (c : Config) (q : Request) (name : Name) (j : ℕ) (s : State)
+pub take-parts : (up : ℕ → ℕ → State → Way) (c : Config) (q : Request) (name : Option ℕ) (j : ℕ) (s : State)
     → take_by up c q name j s ≡ on_held (local_take c.tree_order s.locals j name (size q)) s (at_row c q name j) up missed
 unfolding take_by at_row
 take-parts up c q name j s = refl
 
-module _ (k : ℕ) (c : Config) (q : Request) (name : Name) (j row free : ℕ) (s : State) where
+module _ (k : ℕ) (c : Config) (q : Request) (name : Option ℕ) (j row free : ℕ) (s : State) where
   pub top_up-none : k ≡ 0 → top_up k c q name j row free s ≡ missed_at (row / tree_rows c.tree_order) s
   unfolding top_up
   top_up-none e = go k e

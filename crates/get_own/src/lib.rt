@@ -8,7 +8,7 @@ ghost use Rattle.rules_calls.specs.FromLocals.{top_up, get_local, own_local};
 ghost use Rattle.test_fits.specs.Fits.{Fits};
 ghost use Rattle.test_fits.specs.Room.{Room};
 
-use rules::{Given, Header, Held, Name, Request};
+use rules::{Header, Held, Request};
 use rules_calls::Routed;
 
 // Subtract, and ask the lower at the local's row; where it holds too few, or another tree than the named one, top it up.
@@ -20,7 +20,7 @@ pub fn get_local(
     locals: &mut [u64],
     bits: &mut [u64],
     q: Request,
-    name: Name,
+    name: Option<usize>,
     j: usize,
     syncs: usize,
     looks: usize,
@@ -51,7 +51,7 @@ fn top_up(
     locals: &mut [u64],
     bits: &mut [u64],
     q: Request,
-    name: Name,
+    name: Option<usize>,
     j: usize,
     row: usize,
     free: usize,
@@ -83,8 +83,8 @@ pub fn own_local(
     locals: &mut [u64],
     bits: &mut [u64],
     q: Request,
-    name: Name,
-    local: Given,
+    name: Option<usize>,
+    local: Option<usize>,
     looks: usize,
     tries: usize,
 ) -> Routed
@@ -94,10 +94,10 @@ pub fn own_local(
         × ((result.looks ≤ looks) × (result.tries ≤ tries + 1)) }
 {
     match local {
-        Given::Local(i) => {
+        Some(i) => {
             let j = word_header::slot(h, q.class, i);
             get_local(h, table, trees, locals, bits, q, name, j, 1, looks, tries)
         }
-        Given::Nothing => get_ends::missed(looks, tries),
+        None => get_ends::missed(looks, tries),
     }
 }

@@ -8,7 +8,7 @@ ghost use Rattle.test_fits.specs.Fits.{Fits};
 ghost use Rattle.test_fits.specs.Room.{Room};
 ghost use Rattle.get_own_row.specs.Own.{at_row};
 
-use rules::{Found, Header, Name, Request};
+use rules::{Header, Request};
 use rules_calls::Routed;
 
 // A local has paid at its row: the lower is asked there, and the found frame's row stored; if it refuses, the frames go to the tree's entry.
@@ -19,7 +19,7 @@ pub fn at_row(
     locals: &mut [u64],
     bits: &mut [u64],
     q: Request,
-    name: Name,
+    name: Option<usize>,
     j: usize,
     row: usize,
     looks: usize,
@@ -31,11 +31,11 @@ pub fn at_row(
         × ((result.looks ≤ looks) × (result.tries ≤ tries + 1)) }
 {
     match lower::lower_get(bits, row, q.order, name) {
-        Found::At(f) => {
+        Some(f) => {
             local_words::set_start(locals, j, f / 64);
             get_ends::done(f, q.class, looks, tries + 1)
         }
-        Found::Nothing => {
+        None => {
             tree_words::put(h, table, trees, row / 32, word_sizes::size(q.order));
             get_ends::missed_at(row / 32, looks, tries + 1)
         }

@@ -1,5 +1,5 @@
 -- A part of a take from the own local as a definition of its own: topping it up. Its ways; laws of `top_by`. Assumes nothing.
-use Rattle.std.specs.Prelude.{◌≡◌, Bool, List, ℕ, ◌-◌, ◌/◌, ◌<◌, ◌≤◌, ltb}
+use Rattle.std.specs.Prelude.{◌≡◌, Bool, List, ℕ, ◌-◌, ◌/◌, ◌<◌, ◌≤◌, ltb, Option, Some, None}
 use Rattle.std.proofs.Math.Path.{refl}
 use Rattle.std.proofs.Math.Bool.{true, false}
 use Rattle.std.proofs.Common.{le-ltb, lt-ltb}
@@ -8,7 +8,6 @@ use Rattle.rules.specs.Words.{Config, tree_rows}
 use Rattle.rules.specs.Entries.{entry_put, entry_sync}
 use Rattle.rules.specs.Locals.{local_put}
 use Rattle.rules.specs.declared.Request.{Request}
-use Rattle.rules.specs.declared.Synced.{Synced}
 use Rattle.rules_calls.specs.State.{State, Way, st, size, missed_at, on_sync, on_put, put_entry, with_trees, with_locals}
 use Rattle.rules_calls.specs.FromLocals.{top_by}
 
@@ -35,10 +34,10 @@ module _ {A : Type 0} (again miss : State → A) where
   put-topped f s (out false l) = refl
 
   sync-topped : (g : ℕ → State → A) (h : ℕ → State → Out Bool State) (s : State) → ((n : ℕ) (s1 : State) → g n s1 ≡ on_topped (h n s1) again miss)
-      → (x : Out Synced (List ℕ)) → on_sync x s g miss ≡ on_topped (on_sync x s h (out false)) again miss
+      → (x : Out (Option ℕ) (List ℕ)) → on_sync x s g miss ≡ on_topped (on_sync x s h (out false)) again miss
   unfolding on_sync on_topped
-  sync-topped g h s e (out (Synced.Free n) t) = e n _
-  sync-topped g h s e (out Synced.Nothing t) = refl
+  sync-topped g h s e (out (Some n) t) = e n _
+  sync-topped g h s e (out None t) = refl
 
   if-topped : (b : Bool) (s : State) (x : A) (y : Out Bool State) → x ≡ on_topped y again miss
       → ifte b (λ _. miss s) (λ _. x) ≡ on_topped (ifte b (λ _. out false s) (λ _. y)) again miss
@@ -59,12 +58,12 @@ module _ (c : Config) (n j row free : ℕ) (ts ls bs : List ℕ) (looks tries : 
   unfolding topped ifte
   topped-past h = rw (lt-ltb _ _ h)
 
-  module _ {o : Synced} {us : List ℕ} (h : free ≤ n) (asked : out o us ≡ entry_sync ts (row / tree_rows c.tree_order) (n - free)) where
-    pub topped-nothing : o ≡ Synced.Nothing → out false (st us ls bs looks tries) ≡ topped c n j row free (st ts ls bs looks tries)
+  module _ {o : Option ℕ} {us : List ℕ} (h : free ≤ n) (asked : out o us ≡ entry_sync ts (row / tree_rows c.tree_order) (n - free)) where
+    pub topped-nothing : o ≡ None → out false (st us ls bs looks tries) ≡ topped c n j row free (st ts ls bs looks tries)
     unfolding topped on_sync with_trees ifte
     topped-nothing nothing = rw (le-ltb _ _ h, ← asked, nothing)
 
-    module _ {x : ℕ} {r : Bool} {ms : List ℕ} (some : o ≡ Synced.Free x) (given : out r ms ≡ local_put c.tree_order ls j (row / tree_rows c.tree_order) x) where
+    module _ {x : ℕ} {r : Bool} {ms : List ℕ} (some : o ≡ Some x) (given : out r ms ≡ local_put c.tree_order ls j (row / tree_rows c.tree_order) x) where
       pub topped-took : r ≡ true → out true (st us ms bs looks tries) ≡ topped c n j row free (st ts ls bs looks tries)
       unfolding topped on_sync on_put with_trees with_locals ifte
       topped-took took = rw (le-ltb _ _ h, ← asked, some, ← given, took)

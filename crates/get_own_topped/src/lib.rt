@@ -7,7 +7,7 @@ ghost use Rattle.rules.specs.Words.{config};
 ghost use Rattle.rules_calls.specs.State.{st};
 ghost use Rattle.get_own_topped.specs.Topped.{topped};
 
-use rules::{Header, Synced};
+use rules::Header;
 
 // Sync with shortfall n minus local free, no sync where that is negative: whether the local was topped up. If it will not take the frames, they go to the entry.
 pub fn topped(
@@ -28,13 +28,13 @@ pub fn topped(
         return false;
     }
     match tree_words::sync(trees, row / 32, n - free) {
-        Synced::Free(x) => {
+        Some(x) => {
             if local_frames::put(locals, j, row / 32, x as usize) {
                 return true;
             }
             tree_words::put(h, table, trees, row / 32, x as usize);
             false
         }
-        Synced::Nothing => false,
+        None => false,
     }
 }

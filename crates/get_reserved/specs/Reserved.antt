@@ -1,11 +1,9 @@
 -- A tree that was reserved, by the answers of the steps: laws of `reserved`. Assumes nothing.
-use Rattle.std.specs.Prelude.{◌≡◌, Bool, List, ℕ, ◌+◌, ◌-◌, ◌*◌}
+use Rattle.std.specs.Prelude.{◌≡◌, Bool, List, ℕ, ◌+◌, ◌-◌, ◌*◌, Option, Some, None}
 use Rattle.rules.specs.Base.{ifte, out}
 use Rattle.rules.specs.Words.{Config, tree_rows}
 use Rattle.rules.specs.Locals.{local_swap, reservation}
 use Rattle.rules.specs.Lower.{lower_get}
-use Rattle.rules.specs.declared.Name.TheVariants.{Any}
-use Rattle.rules.specs.declared.Found.{Found}
 use Rattle.rules.specs.declared.Local.{Local}
 use Rattle.rules.specs.declared.Request.{Request}
 use Rattle.rules_calls.specs.declared.Routed.{Routed}
@@ -13,11 +11,11 @@ use Rattle.rules_calls.specs.State.{State, Way, st, ended, size, done, missed, s
 use Rattle.rules_calls.specs.Walking.{reserved_tree}
 use Rattle.tree_returns.specs.Returned.{returned, returned_local, local-returned, returned-if, unreserve-returned}
 
-module _ (c : Config) (q : Request) (j t old : ℕ) (s : State) {w : Way} {x : Found} {bs ts : List ℕ} {b : Bool} {r : Routed}
-    (asked : out x bs ≡ lower_get c.tree_order s.bits (t * tree_rows c.tree_order) q.order Any)
+module _ (c : Config) (q : Request) (j t old : ℕ) (s : State) {w : Way} {x : Option ℕ} {bs ts : List ℕ} {b : Bool} {r : Routed}
+    (asked : out x bs ≡ lower_get c.tree_order s.bits (t * tree_rows c.tree_order) q.order None)
     (same : (r.looks ≡ s.looks) × (r.tries ≡ s.tries + 1)) where
   -- a frame: the reservation is stored, and the one that it replaces returned, or Stuck
-  pub reserved-stored : {f n free : ℕ} {new l : Local} {ls : List ℕ} → x ≡ Found.At f → n ≡ size q → free ≡ old - n → new ≡ reservation (t * tree_rows c.tree_order) free
+  pub reserved-stored : {f n free : ℕ} {new l : Local} {ls : List ℕ} → x ≡ Some f → n ≡ size q → free ≡ old - n → new ≡ reservation (t * tree_rows c.tree_order) free
       → out l ls ≡ local_swap s.locals j new → out b ts ≡ returned_local c l q.class s.trees
       → ended r ts ls bs ≡ done f q.class (st ts ls bs s.looks (s.tries + 1))
       → w ≡ ifte b (λ _. ended r ts ls bs) (λ _. stuck (st ts ls bs r.looks r.tries)) → w ≡ reserved_tree c q j t old s
@@ -26,7 +24,7 @@ module _ (c : Config) (q : Request) (j t old : ℕ) (s : State) {w : Way} {x : F
       rw (← asked, e, ← much, ← left, ← made, ← swap, local-returned _ _ _ _ _ _, ← back, returned-if _ _ _ _ _, ← end, ← same.0, ← same.1) h
 
   -- none: it is undone, or Stuck
-  pub reserved-undone : x ≡ Found.Nothing → out b ts ≡ returned c t q.class old s.trees
+  pub reserved-undone : x ≡ None → out b ts ≡ returned c t q.class old s.trees
       → ended r ts s.locals bs ≡ missed (st ts s.locals bs s.looks (s.tries + 1))
       → w ≡ ifte b (λ _. ended r ts s.locals bs) (λ _. stuck (st ts s.locals bs r.looks r.tries)) → w ≡ reserved_tree c q j t old s
   unfolding reserved_tree on_found with_trees with_try

@@ -10,7 +10,7 @@ ghost use Rattle.rules_calls.specs.Walking.{reserved_tree};
 ghost use Rattle.test_fits.specs.Fits.{Fits};
 ghost use Rattle.test_fits.specs.Room.{Room};
 
-use rules::{Found, Header, Local, Name, Request};
+use rules::{Header, Local, Request};
 use rules_calls::Routed;
 
 // A reservation of tree t, at its first row.
@@ -55,14 +55,14 @@ pub fn reserved(
         ≡ reserved_tree (config h table.now) q j t old (st trees.old locals.old bits.old looks tries))
         × ((result.looks ≤ looks) × (result.tries ≤ tries + 1)) }
 {
-    match lower::lower_get(bits, t * 32, q.order, Name::Any) {
-        Found::At(f) => {
+    match lower::lower_get(bits, t * 32, q.order, None) {
+        Some(f) => {
             let free = word_sizes::less(old as usize, word_sizes::size(q.order));
             let l = local_words::swap(locals, j, reservation(t, free));
             let back = tree_returns::unreserve_local(h, table, trees, q.class, l);
             or_stuck(back, get_ends::done(f, q.class, looks, tries + 1))
         }
-        Found::Nothing => {
+        None => {
             let back = tree_returns::unreserve(h, table, trees, t, q.class, old as usize);
             or_stuck(back, get_ends::missed(looks, tries + 1))
         }

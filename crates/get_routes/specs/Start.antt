@@ -1,12 +1,11 @@
 -- The start of a search after the own local. A tree that a failed own reservation gives comes out of a local's word, and is small. Assumes nothing.
-use Rattle.std.specs.Prelude.{◌≡◌, true, false, List, get_or, ltb}
+use Rattle.std.specs.Prelude.{◌≡◌, true, false, List, get_or, ltb, Option}
 use Rattle.std.proofs.Math.Path.{refl}
 use Rattle.std.proofs.Common.{sym, subst, true≢false, div-le_self, mul-le-mul_right, le_trans, arith}
 use Prim.Native.Nat.{ℕ, zero, suc, ◌-◌, ◌*◌, ◌/◌, ◌^◌, ◌<◌, ◌≤◌}
 use Rattle.rules.specs.Base.{out}
 use Rattle.rules.specs.Words.{Config, config, local_of}
 use Rattle.rules.specs.declared.Header.{Header}
-use Rattle.rules.specs.declared.Name.{Name}
 use Rattle.rules.specs.declared.Request.{Request}
 use Rattle.rules_calls.specs.declared.Got.{Got}
 use Rattle.rules_calls.specs.State.{State, Way, size, done, missed, missed_at}
@@ -55,7 +54,7 @@ row_small : (w : ℕ) → (local_of w).row / 32 < 2 ^ 44
 unfolding local_of
 row_small w = omega arith
 
-module _ (h : Header) (pairs : List ℕ) (q : Request) (name : Name) (j : ℕ) (order : q.order ≤ 11) where
+module _ (h : Header) (pairs : List ℕ) (q : Request) (name : Option ℕ) (j : ℕ) (order : q.order ≤ 11) where
   abbrev c : Config
   c = config h pairs
 

@@ -3,14 +3,13 @@
 
 ghost use Rattle.std.specs.Prelude.{◌≡◌, List, ℕ, ◌*◌, ◌/◌, ◌^◌, ◌<◌, ◌≤◌};
 ghost use Rattle.rules.specs.Words.{config};
-ghost use Rattle.rules.specs.declared.Given.TheVariants as Given;
 ghost use Rattle.rules_calls.specs.State.{st, ended, index_of};
 ghost use Rattle.rules_calls.specs.Get.{start_tree, search_trees, routes};
 ghost use Rattle.test_fits.specs.Fits.{Fits};
 ghost use Rattle.get_routes.specs.Start.{start_after};
 ghost use Rattle.get_routes.specs.Turn.{reserving};
 
-use rules::{Given, Header, Name, Request};
+use rules::{Header, Request};
 use rules_calls::{Got, Routed};
 
 // n / m, rounded down, times i.
@@ -27,7 +26,7 @@ fn portion(n: usize, m: usize, i: usize) -> usize
 // The start tree of the local i: (n / locals, rounded down) times the local, or 0 with no locals.
 fn start_tree(h: Header, q: Request, i: usize) -> usize
     requires { Fits h q × (i < 2 ^ 32) }
-    ensures { ((pairs : List ℕ) → result ≡ start_tree (config h pairs) q (Given.Local i)) × (result < 2 ^ 44) }
+    ensures { ((pairs : List ℕ) → result ≡ start_tree (config h pairs) q (Some i)) × (result < 2 ^ 44) }
 {
     let m = word_header::locals_of(h, q.class);
     if m == 0 {
@@ -49,13 +48,13 @@ fn start_after(got: Got, start: usize) -> usize
 }
 
 // Whether the own local is asked and the search reserves: a local is given, and its class has fewer locals than there are trees.
-fn is_reserving(h: Header, q: Request, local: Given) -> bool
+fn is_reserving(h: Header, q: Request, local: Option<usize>) -> bool
     requires { Fits h q }
     ensures { (pairs : List ℕ) → result ≡ reserving (config h pairs) q local }
 {
     match local {
-        Given::Local(_) => word_header::locals_of(h, q.class) < word_header::tree_count(h.frames),
-        Given::Nothing => false,
+        Some(_) => word_header::locals_of(h, q.class) < word_header::tree_count(h.frames),
+        None => false,
     }
 }
 
@@ -67,7 +66,7 @@ fn search_trees(
     locals: &mut [u64],
     bits: &mut [u64],
     q: Request,
-    local: Given,
+    local: Option<usize>,
 ) -> Routed
     requires { Fits h q × (index_of local < 2 ^ 32) }
     ensures { (ended result trees.new locals.new bits.new
@@ -80,7 +79,7 @@ fn search_trees(
         return get_search::search_and_steal(h, table, trees, locals, bits, q, start, 0, 0);
     }
     let j = word_header::slot(h, q.class, i);
-    let name = Name::Any;
+    let name = None;
     let r = get_own::get_local(h, table, trees, locals, bits, q, name, j, 1, 0, 0);
     let got = r.got;
     if get_ends::ends(got) {
@@ -98,13 +97,13 @@ pub fn routes(
     locals: &mut [u64],
     bits: &mut [u64],
     q: Request,
-    name: Name,
+    name: Option<usize>,
 ) -> Routed
     requires { Fits h q }
     ensures { ended result trees.new locals.new bits.new
         ≡ routes (config h table.now) q name (st trees.old locals.old bits.old 0 0) }
 {
-    if let Name::Frame(f) = name {
+    if let Some(f) = name {
         return get_named::get_at(h, table, trees, locals, bits, q, f, 0, 0);
     }
     let local = q.local;

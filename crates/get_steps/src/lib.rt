@@ -7,17 +7,14 @@ ghost use Rattle.rules_calls.specs.State.{st, ended, index_of, ask_lower};
 ghost use Rattle.test_fits.specs.Fits.{Fits};
 ghost use Rattle.test_fits.specs.Room.{Room};
 
-use rules::{Found, Given, Header, Name, Request};
+use rules::{Header, Request};
 use rules_calls::Routed;
 
 // The given index, 0 if none.
-pub fn index_of(local: Given) -> usize
+pub fn index_of(local: Option<usize>) -> usize
     ensures { result ≡ index_of local }
 {
-    match local {
-        Given::Local(i) => i,
-        Given::Nothing => 0,
-    }
+    local.unwrap_or(0)
 }
 
 // The lower is asked once, at a row, for frames that were taken of the row's tree; refused, they go to its entry.
@@ -27,7 +24,7 @@ pub fn ask_lower(
     trees: &mut [u32],
     bits: &mut [u64],
     q: Request,
-    name: Name,
+    name: Option<usize>,
     row: usize,
     class: usize,
     looks: usize,
@@ -39,8 +36,8 @@ pub fn ask_lower(
         × ((result.looks ≤ looks) × (result.tries ≤ tries + 1)) }
 {
     match lower::lower_get(bits, row, q.order, name) {
-        Found::At(f) => get_ends::done(f, class, looks, tries + 1),
-        Found::Nothing => {
+        Some(f) => get_ends::done(f, class, looks, tries + 1),
+        None => {
             tree_words::put(h, table, trees, row / 32, word_sizes::size(q.order));
             get_ends::missed(looks, tries + 1)
         }

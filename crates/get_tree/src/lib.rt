@@ -4,14 +4,13 @@
 ghost use Rattle.std.specs.Prelude.{◌≡◌, ℕ, ◌+◌, ◌^◌, ◌<◌, ◌≤◌};
 ghost use Rattle.rules.specs.Base.{ifte};
 ghost use Rattle.rules.specs.Words.{Config, config};
-ghost use Rattle.rules.specs.declared.Name.TheVariants.{Any};
 ghost use Rattle.rules.specs.declared.Request.{Request};
 ghost use Rattle.rules_calls.specs.State.{State, st, ended};
 ghost use Rattle.rules_calls.specs.Walking.{steal_global, reserve_or_steal, access};
 ghost use Rattle.test_fits.specs.Fits.{Fits};
 ghost use Rattle.test_fits.specs.Room.{Room};
 
-use rules::{Header, Name, Request, Taken, Took};
+use rules::{Header, Request, Taken};
 use rules_calls::{Routed, Walk};
 
 // Steal globally, from the entry of tree t.
@@ -22,7 +21,7 @@ pub fn steal_global(
     locals: &mut [u64],
     bits: &mut [u64],
     q: Request,
-    name: Name,
+    name: Option<usize>,
     t: usize,
     looks: usize,
     tries: usize,
@@ -33,8 +32,8 @@ pub fn steal_global(
         × ((result.looks ≤ looks) × (result.tries ≤ tries + 1)) }
 {
     match tree_words::steal(table, trees, t, q.class, word_sizes::size(q.order)) {
-        Took::No => get_ends::missed(looks, tries),
-        Took::Yes(e) => {
+        None => get_ends::missed(looks, tries),
+        Some(e) => {
             let row = t * 32;
             get_steps::ask_lower(h, table, trees, bits, q, name, row, e.class, looks, tries)
         }
@@ -60,13 +59,13 @@ fn reserve_or_steal(
         × ((result.looks ≤ looks) × (result.tries ≤ tries + 1)) }
 {
     match tree_words::reserve_or_steal(table, trees, t, q.class, word_sizes::size(q.order)) {
-        Taken::No => get_ends::missed(looks, tries),
-        Taken::Part(e) => {
-            let name = Name::Any;
+        None => get_ends::missed(looks, tries),
+        Some(Taken::Part(e)) => {
+            let name = None;
             let row = t * 32;
             get_steps::ask_lower(h, table, trees, bits, q, name, row, e.class, looks, tries)
         }
-        Taken::Whole(e, old) => {
+        Some(Taken::Whole(e, old)) => {
             get_reserved::reserved(h, table, trees, locals, bits, q, j, t, old, looks, tries)
         }
     }
@@ -104,7 +103,7 @@ pub fn access(
         × ((result.looks ≤ looks) × (result.tries ≤ tries + 1)) }
 {
     if steals(walk) {
-        return steal_global(h, table, trees, locals, bits, q, Name::Any, t, looks, tries);
+        return steal_global(h, table, trees, locals, bits, q, None, t, looks, tries);
     }
     reserve_or_steal(h, table, trees, locals, bits, q, j, t, looks, tries)
 }

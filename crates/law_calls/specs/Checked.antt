@@ -1,19 +1,18 @@
 -- The argument tests: what they have shown where they refuse nothing, and the numbers with which they refuse. Assumes nothing.
-use Rattle.std.specs.Prelude.{◌≡◌, refl, ◌⊎◌, ℕ, ◌+◌, ◌%◌, ◌^◌, ◌<◌, ◌≤◌, eqb, ltb}
+use Rattle.std.specs.Prelude.{◌≡◌, refl, ◌⊎◌, ℕ, ◌+◌, ◌%◌, ◌^◌, ◌<◌, ◌≤◌, eqb, ltb, Option, Some, None}
 use Rattle.std.proofs.Common.{inl, inr, arith}
 use borrow.Author.Tests.{eqb-true, ltb-true, ltb-false}
 use Rattle.rules.specs.Words.{Config, configured, locals_of}
 use Rattle.rules.specs.Policy.{Configured}
-use Rattle.rules.specs.declared.Given.{Given}
 use Rattle.rules.specs.declared.Request.{Request}
 use Rattle.rules_calls.specs.Calls.{refuse_local, refuse_class, refusal}
 use Rattle.law_rules.specs.Kinds.{configured-fact}
 use Rattle.law_calls.specs.Steps.{ifte-ind, pick_ind}
 
 -- a local given is one of the class's
-abbrev pub LocalIn : Config → ℕ → Given → Type 0
-LocalIn c k (Given.Local i) = i < locals_of c.places k
-LocalIn c k Given.Nothing = Unit {0}
+abbrev pub LocalIn : Config → ℕ → Option ℕ → Type 0
+LocalIn c k (Some i) = i < locals_of c.places k
+LocalIn c k None = Unit {0}
 
 -- the arguments of a get or a put of the frame f, none refused
 pub record Checked (c : Config) (q : Request) (f : ℕ) : Type 0 where
@@ -25,10 +24,10 @@ pub record Checked (c : Config) (q : Request) (f : ℕ) : Type 0 where
 
 -- refused with 2 to 6, or not at all
 module _ (Q : ℕ → Type 0) (c : Config) (refused : (n : ℕ) → 2 ≤ n → n ≤ 6 → Q n) where
-  local-ind : (k : ℕ) (g : Given) → (LocalIn c k g → Q 0) → Q (refuse_local c k g)
+  local-ind : (k : ℕ) (g : Option ℕ) → (LocalIn c k g → Q 0) → Q (refuse_local c k g)
   unfolding refuse_local
-  local-ind k (Given.Local i) on = pick_ind Q (ltb i (locals_of c.places k)) 0 6 (λ t. on (ltb-true _ _ t)) (λ _. refused 6 (omega arith) (omega arith))
-  local-ind k Given.Nothing on = on tt
+  local-ind k (Some i) on = pick_ind Q (ltb i (locals_of c.places k)) 0 6 (λ t. on (ltb-true _ _ t)) (λ _. refused 6 (omega arith) (omega arith))
+  local-ind k None on = on tt
 
   class-ind : (q : Request) → (Configured c q.class → LocalIn c q.class q.local → Q 0) → Q (refuse_class c q)
   unfolding refuse_class

@@ -1,5 +1,5 @@
 -- The looks of a walk are its steps: each step that was done is one look, and nothing else is. Assumes nothing.
-use Rattle.std.specs.Prelude.{◌≡◌, refl, List, eqb}
+use Rattle.std.specs.Prelude.{◌≡◌, refl, List, eqb, Option, None}
 use Prim.Native.Nat.{ℕ, zero, suc, ◌+◌, ◌*◌}
 use native.Mathlib.Omega.{arith}
 use Rattle.rules.specs.Base.{Out, out}
@@ -7,8 +7,6 @@ use Rattle.rules.specs.Words.{Config, tree_rows, entry_at}
 use Rattle.rules.specs.Entries.{entry_steal, entry_reserve}
 use Rattle.rules.specs.Locals.{local_swap}
 use Rattle.rules.specs.Lower.{lower_get}
-use Rattle.rules.specs.declared.Name.{Name}
-use Rattle.rules.specs.declared.Name.TheVariants.{Any}
 use Rattle.rules.specs.declared.Request.{Request}
 use Rattle.rules_calls.specs.declared.Got.{Got}
 use Rattle.rules_calls.specs.declared.Walk.{Walk}
@@ -31,14 +29,14 @@ module _ (c : Config) (q : Request) (n : ℕ) where
   abbrev Same : Way → Type 0
   Same w = looks_of w ≡ n
 
-  asked : (name : Name) (t row k : ℕ) (s : State) → s.looks ≡ n → Same (ask_lower c q name t row k s)
+  asked : (name : Option ℕ) (t row k : ℕ) (s : State) → s.looks ≡ n → Same (ask_lower c q name t row k s)
   unfolding ask_lower done missed put_entry with_trees with_try
   asked name t row k s e = found-any Same (lower_get c.tree_order s.bits row q.order name) s _ _ (λ f b. e) (λ b. e)
 
   kept : (j t old : ℕ) (s : State) → s.looks ≡ n → Same (reserved_tree c q j t old s)
   unfolding reserved_tree done missed stuck with_trees with_locals with_try
   kept j t old s e =
-      found-any Same (lower_get c.tree_order s.bits (t * tree_rows c.tree_order) q.order Any) s _ _
+      found-any Same (lower_get c.tree_order s.bits (t * tree_rows c.tree_order) q.order None) s _ _
       (λ f b. swap_any Same (local_swap s.locals j _) (with_try s b) _
       (λ l ls. unreserve_local-any Same c l q.class (with_locals (with_try s b) ls) _ _ (λ ts. e) (λ ts. e)))
       (λ b. unreserve-any Same c t q.class old (with_try s b) _ _ (λ ts. e) (λ ts. e))
@@ -47,9 +45,9 @@ module _ (c : Config) (q : Request) (n : ℕ) where
   unfolding reserve_or_steal missed with_trees
   reserves j t s e =
       taken-any Same (entry_reserve c s.trees t q.class (size q)) s _ _ _
-      (λ x ts. asked Any t _ _ (with_trees s ts) e) (λ f ts. kept j t f (with_trees s ts) e) (λ ts. e)
+      (λ x ts. asked None t _ _ (with_trees s ts) e) (λ f ts. kept j t f (with_trees s ts) e) (λ ts. e)
 
-  steals : (name : Name) (t : ℕ) (s : State) → s.looks ≡ n → Same (steal_global c q name t s)
+  steals : (name : Option ℕ) (t : ℕ) (s : State) → s.looks ≡ n → Same (steal_global c q name t s)
   unfolding steal_global missed with_trees
   steals name t s e = took-any Same (entry_steal c s.trees t q.class (size q)) s _ _ (λ x ts. asked name t _ _ (with_trees s ts) e) (λ ts. e)
 
@@ -58,7 +56,7 @@ module _ (c : Config) (q : Request) (n : ℕ) where
   unfolding access
   access-looks Walk.Near j t s e = reserves j t s e
   access-looks Walk.Far j t s e = reserves j t s e
-  access-looks Walk.Stealing j t s e = steals Any t s e
+  access-looks Walk.Stealing j t s e = steals None t s e
 
 -- ---- a visit is one look
 

@@ -1,5 +1,5 @@
 -- Which local pays: one of a configured class whose kind passes, with enough, and on the named tree; and that none can where nobody does. Assumes nothing.
-use Rattle.std.specs.Prelude.{◌≡◌, Bool, true, false, ◌⊎◌, List, leb}
+use Rattle.std.specs.Prelude.{◌≡◌, Bool, true, false, ◌⊎◌, List, leb, Option, Some, None}
 use Rattle.std.proofs.Math.Path.{refl, subst}
 use Rattle.std.proofs.Common.{sym, ◌∙◌, inl, inr, arith, leb-true, le-leb}
 use Prim.Native.Nat.{ℕ, zero, suc, ◌+◌, ◌%◌, ◌<◌, ◌≤◌}
@@ -7,13 +7,10 @@ use Rattle.std.proofs.Math.Nat.{mod-lt}
 use Rattle.rules.specs.Base.{pick, both, first_in}
 use Rattle.rules.specs.Words.{Config, configured, locals_of, slot, local_at}
 use Rattle.rules.specs.Policy.{policy, Configured}
-use Rattle.rules.specs.Locals.{in_tree, has_enough, cyclic, first_local, payer_or, may_pay, may_move, payer_in, steal_any, demote_any}
+use Rattle.rules.specs.Locals.{in_tree, has_enough, cyclic, first_local, payer_or, may_pay, may_move, payer_in, steal_any, demote_any, paying}
 use Rattle.rules.specs.declared.Local.{Local}
 use Rattle.rules.specs.declared.Kind.{Kind}
 use Rattle.rules.specs.declared.Kind.TheVariants.{Invalid, Steal, Demote, Match}
-use Rattle.rules.specs.declared.Name.{Name}
-use Rattle.rules.specs.declared.Found.{Found}
-use Rattle.rules.specs.declared.Found.TheVariants.{At, Nothing}
 use Rattle.rules.specs.declared.Payer.{Payer}
 use Rattle.law_rules.specs.First.{first-sound, first-empty}
 use Rattle.law_rules.specs.Cases.{by-eq}
@@ -23,12 +20,12 @@ use Rattle.law_rules.specs.Kinds.{kind_number, configured-fact}
 use Rattle.law_calls.specs.Steps.{ifte-ind}
 
 -- a local that has enough
-pub record Enough (z : ℕ) (l : Local) (name : Name) (n : ℕ) : Type 0 where
+pub record Enough (z : ℕ) (l : Local) (name : Option ℕ) (n : ℕ) : Type 0 where
   pub present : l.present ≡ true
   pub named : in_tree z l.row name ≡ true
   pub enough : n ≤ l.free
 
-pub enough-fact : (z : ℕ) (l : Local) (name : Name) (n : ℕ) → has_enough z l name n ≡ true → Enough z l name n
+pub enough-fact : (z : ℕ) (l : Local) (name : Option ℕ) (n : ℕ) → has_enough z l name n ≡ true → Enough z l name n
 unfolding has_enough
 enough-fact z l name n h = go l.present refl (in_tree z l.row name) refl h
   where
@@ -37,12 +34,12 @@ enough-fact z l name n h = go l.present refl (in_tree z l.row name) refl h
     go true p false q r = absurd (let x : ◌≡◌ {A = ℕ} 0 1 = cc in omega arith)
     go false p b q r = absurd (let x : ◌≡◌ {A = ℕ} 0 1 = cc in omega arith)
 
-pub has-enough : {z : ℕ} {l : Local} {name : Name} {n : ℕ} → Enough z l name n → has_enough z l name n ≡ true
+pub has-enough : {z : ℕ} {l : Local} {name : Option ℕ} {n : ℕ} → Enough z l name n → has_enough z l name n ≡ true
 unfolding has_enough
 has-enough E = rw (E.present, E.named, le-leb _ _ E.enough)
 
 -- the payer for class k: the local in slot j, of class e, whose kind passes the test p
-pub record Pays (p : Kind → Bool) (c : Config) (ls : List ℕ) (k : ℕ) (name : Name) (n e j : ℕ) : Type 0 where
+pub record Pays (p : Kind → Bool) (c : Config) (ls : List ℕ) (k : ℕ) (name : Option ℕ) (n e j : ℕ) : Type 0 where
   pub class : Configured c e
   pub passes : p (policy c k e n) ≡ true
   pub index : ℕ
@@ -50,7 +47,7 @@ pub record Pays (p : Kind → Bool) (c : Config) (ls : List ℕ) (k : ℕ) (name
   pub is : j ≡ slot c.places e index
   pub has : Enough c.tree_order (local_at ls j) name n
 
-module _ (p : Kind → Bool) (c : Config) (ls : List ℕ) (k from : ℕ) (name : Name) (n : ℕ) where
+module _ (p : Kind → Bool) (c : Config) (ls : List ℕ) (k from : ℕ) (name : Option ℕ) (n : ℕ) where
   -- the local of class e that is d further than the given index has enough
   abbrev Has : ℕ → ℕ → Bool
   Has e d = has_enough c.tree_order (local_at ls (slot c.places e ((from + d) % locals_of c.places e))) name n
@@ -64,14 +61,14 @@ module _ (p : Kind → Bool) (c : Config) (ls : List ℕ) (k from : ℕ) (name :
   Nobody i m = (d : ℕ) → i ≤ d → d < i + m → configured c.places ((k + d) % 8) ≡ true → p (policy c k ((k + d) % 8) n) ≡ true → Unable ((k + d) % 8)
 
   -- the first local of class e with enough, or the next class
-  class-ind : (Q : Payer → Type 0) (e : ℕ) (next : Unit {0} → Payer) → Configured c e → p (policy c k e n) ≡ true
-      → (Unable e → Q (next tt)) → ((j : ℕ) → Pays p c ls k name n e j → Q (Payer.Local e j))
+  class-ind : (Q : Option Payer → Type 0) (e : ℕ) (next : Unit {0} → Option Payer) → Configured c e → p (policy c k e n) ≡ true
+      → (Unable e → Q (next tt)) → ((j : ℕ) → Pays p c ls k name n e j → Q (Some (paying e j)))
       → Q (payer_or c.places e from (first_local c.tree_order c.places ls e from name n) next)
   unfolding first_local payer_or cyclic
   class-ind Q e next ce pe rest local = go (first_in (Has e) 0 (locals_of c.places e)) refl
     where
-      go : (x : Found) → first_in (Has e) 0 (locals_of c.places e) ≡ x → Q (payer_or c.places e from x next)
-      go (At d) h =
+      go : (x : Option ℕ) → first_in (Has e) 0 (locals_of c.places e) ≡ x → Q (payer_or c.places e from x next)
+      go (Some d) h =
           let s = first-sound (Has e) 0 (locals_of c.places e) d h in
           local (slot c.places e ((from + d) % locals_of c.places e))
           (record {
@@ -82,14 +79,14 @@ module _ (p : Kind → Bool) (c : Config) (ls : List ℕ) (k from : ℕ) (name :
             is = refl;
             has = enough-fact c.tree_order (local_at ls (slot c.places e ((from + d) % locals_of c.places e))) name n s.passed;
           })
-      go Nothing h = rest (λ x lx.
+      go None h = rest (λ x lx.
           let r = round-to (locals_of c.places e) from x lx in
           subst (λ (y : ℕ). has_enough c.tree_order (local_at ls (slot c.places e y)) name n ≡ false) r.1.1
           (first-empty (Has e) 0 (locals_of c.places e) h r.0 (omega arith) (omega (arith, r.1.0))))
 
   -- over the classes: a local pays, or none can
-  pub payer-both : (Q : Payer → Type 0) (m i : ℕ) → (Nobody i m → Q Payer.Nobody)
-      → ((d j : ℕ) → i ≤ d → d < i + m → Pays p c ls k name n ((k + d) % 8) j → Q (Payer.Local ((k + d) % 8) j)) → Q (payer_in p c ls k from name n i m)
+  pub payer-both : (Q : Option Payer → Type 0) (m i : ℕ) → (Nobody i m → Q None)
+      → ((d j : ℕ) → i ≤ d → d < i + m → Pays p c ls k name n ((k + d) % 8) j → Q (Some (paying ((k + d) % 8) j))) → Q (payer_in p c ls k from name n i m)
   unfolding payer_in
   payer-both Q zero i none pays = none (λ d a b. absurd (omega arith))
   payer-both Q (suc m) i none pays =
@@ -111,23 +108,23 @@ module _ (p : Kind → Bool) (c : Config) (ls : List ℕ) (k from : ℕ) (name :
       (λ d j a b. pays d j (omega arith) (omega arith)))
 
   -- the same, whoever pays
-  pub payer-ind : (Q : Payer → Type 0) → Q Payer.Nobody → ((e j : ℕ) → Pays p c ls k name n e j → Q (Payer.Local e j)) → (m i : ℕ) → Q (payer_in p c ls k from name n i m)
+  pub payer-ind : (Q : Option Payer → Type 0) → Q None → ((e j : ℕ) → Pays p c ls k name n e j → Q (Some (paying e j))) → (m i : ℕ) → Q (payer_in p c ls k from name n i m)
   payer-ind Q nobody local m i = payer-both Q m i (λ _. nobody) (λ d j _ _ P. local ((k + d) % 8) j P)
 
-  payer-enough : (m i : ℕ) {x : Payer} {e j : ℕ} → x ≡ payer_in p c ls k from name n i m → x ≡ Payer.Local e j → has_enough c.tree_order (local_at ls j) name n ≡ true
-  payer-enough m i {x} {e} {j} first some =
-      payer-ind (λ (y : Payer). y ≡ Payer.Local e j → has_enough c.tree_order (local_at ls j) name n ≡ true)
+  payer-enough : (m i : ℕ) {x : Option Payer} {a : Payer} → x ≡ payer_in p c ls k from name n i m → x ≡ Some a → has_enough c.tree_order (local_at ls a.slot) name n ≡ true
+  payer-enough m i {x} {a} first some =
+      payer-ind (λ (y : Option Payer). y ≡ Some a → has_enough c.tree_order (local_at ls a.slot) name n ≡ true)
       (λ is. absurd (let z : ◌≡◌ {A = ℕ} 0 1 = cc in omega arith))
-      (λ d l P is. let at : l ≡ j = cc in subst (λ (y : ℕ). has_enough c.tree_order (local_at ls y) name n ≡ true) at (has-enough P.has))
+      (λ d l P is. let same : paying d l ≡ a = cc in let at : l ≡ a.slot = ap (λ (y : Payer). y.slot) same in subst (λ (y : ℕ). has_enough c.tree_order (local_at ls y) name n ≡ true) at (has-enough P.has))
       m i (sym first ∙ some)
 
 -- so one that pays has enough, and so has one whose reservation moves
-module _ (c : Config) (ls : List ℕ) (k from : ℕ) (name : Name) (n : ℕ) {x : Payer} {e j : ℕ} where
-  pub steal-enough : x ≡ steal_any c ls k from name n → x ≡ Payer.Local e j → has_enough c.tree_order (local_at ls j) name n ≡ true
+module _ (c : Config) (ls : List ℕ) (k from : ℕ) (name : Option ℕ) (n : ℕ) {x : Option Payer} {a : Payer} where
+  pub steal-enough : x ≡ steal_any c ls k from name n → x ≡ Some a → has_enough c.tree_order (local_at ls a.slot) name n ≡ true
   unfolding steal_any
   steal-enough first some = payer-enough may_pay c ls k from name n 8 0 first some
 
-  pub demote-enough : x ≡ demote_any c ls k from name n → x ≡ Payer.Local e j → has_enough c.tree_order (local_at ls j) name n ≡ true
+  pub demote-enough : x ≡ demote_any c ls k from name n → x ≡ Some a → has_enough c.tree_order (local_at ls a.slot) name n ≡ true
   unfolding demote_any
   demote-enough first some = payer-enough may_move c ls k from name n 7 1 first some
 

@@ -1,5 +1,5 @@
 -- One law for each step that routes are made of: whatever holds of every way on, holds of the step. Assumes nothing.
-use Rattle.std.specs.Prelude.{◌≡◌, Bool, ◌⊎◌, List, ℕ, ◌+◌, ◌-◌, ◌*◌, ◌/◌, ◌^◌, ◌<◌, ◌≤◌, set}
+use Rattle.std.specs.Prelude.{◌≡◌, Bool, ◌⊎◌, List, ℕ, ◌+◌, ◌-◌, ◌*◌, ◌/◌, ◌^◌, ◌<◌, ◌≤◌, set, Option, Some, None}
 use Rattle.std.proofs.Math.Path.{refl}
 use Rattle.std.proofs.Math.Bool.{true, false}
 use Rattle.std.proofs.Common.{inl, inr, arith}
@@ -15,11 +15,7 @@ use Rattle.rules.specs.declared.Tree.{Tree}
 use Rattle.rules.specs.declared.Local.{Local}
 use Rattle.rules.specs.declared.Kind.{Kind}
 use Rattle.rules.specs.declared.Kind.TheVariants.{Invalid, Steal, Demote, Match}
-use Rattle.rules.specs.declared.Took.{Took}
 use Rattle.rules.specs.declared.Taken.TheVariants as Taken
-use Rattle.rules.specs.declared.Found.{Found}
-use Rattle.rules.specs.declared.Found.TheVariants.{Nothing}
-use Rattle.rules.specs.declared.Name.{Name}
 use Rattle.rules.specs.declared.Request.{Request}
 use Rattle.rules_calls.specs.declared.Got.{Got}
 use Rattle.rules_calls.specs.State.{State, Way, size, done, missed, with_trees, with_locals, with_try, on_took, on_taken, on_sync, on_held, on_put, on_swap, on_found, or_else, put_entry, ask_lower, unreserve, unreserve_local}
@@ -52,7 +48,7 @@ module _ {A : Type 0} (Q : A → Type 0) (s : State) where
       go (entry_at s.trees t).reserved refl (ltb (entry_at s.trees t).free n) refl (policy c k (entry_at s.trees t).class n) refl
     where
       go : (a : Bool) → (entry_at s.trees t).reserved ≡ a → (b : Bool) → ltb (entry_at s.trees t).free n ≡ b → (d : Kind) → policy c k (entry_at s.trees t).class n ≡ d
-          → Q (on_took (keep_took s.trees t (pick a Took.No (pick b Took.No (steal_kind (entry_at s.trees t) k n d)))) s y m)
+          → Q (on_took (keep_took s.trees t (pick a None (pick b None (steal_kind (entry_at s.trees t) k n d)))) s y m)
       go true p b e d r = miss (λ u v w. true-false p u)
       go false p true e d r = miss (λ u v w. (let l : (entry_at s.trees t).free < n = ltb-true _ _ e in omega arith))
       go false p false e Invalid r = miss (λ u v w. omega (arith, w, invalid-kind c k (entry_at s.trees t).class n r))
@@ -73,7 +69,7 @@ module _ {A : Type 0} (Q : A → Type 0) (s : State) where
       go (entry_at s.trees t).reserved refl (ltb (entry_at s.trees t).free n) refl (policy c k (entry_at s.trees t).class n) refl
     where
       go : (a : Bool) → (entry_at s.trees t).reserved ≡ a → (b : Bool) → ltb (entry_at s.trees t).free n ≡ b → (d : Kind) → policy c k (entry_at s.trees t).class n ≡ d
-          → Q (on_taken (keep_taken s.trees t (pick a Taken.No (pick b Taken.No (reserve_kind (entry_at s.trees t) k n d)))) s y w m)
+          → Q (on_taken (keep_taken s.trees t (pick a None (pick b None (reserve_kind (entry_at s.trees t) k n d)))) s y w m)
       go true p b e d r = miss (λ u v x. true-false p u)
       go false p true e d r = miss (λ u v x. (let l : (entry_at s.trees t).free < n = ltb-true _ _ e in omega arith))
       go false p false e Invalid r = miss (λ u v x. omega (arith, x, invalid-kind c k (entry_at s.trees t).class n r))
@@ -91,7 +87,7 @@ module _ {A : Type 0} (Q : A → Type 0) (s : State) where
   unreserve-ind c t k n y m hit miss = go (entry_at s.trees t).reserved refl (policy c k (entry_at s.trees t).class n) refl
     where
       go : (a : Bool) → (entry_at s.trees t).reserved ≡ a → (d : Kind) → policy c k (entry_at s.trees t).class n ≡ d
-          → Q (on_took (keep_took s.trees t (pick a (unreserve_kind c (entry_at s.trees t) k n d) Took.No)) s (λ e. y) m)
+          → Q (on_took (keep_took s.trees t (pick a (unreserve_kind c (entry_at s.trees t) k n d) None)) s (λ e. y) m)
       go false p d r = miss (λ q g. true-false q p)
       go true p Invalid r = miss (λ q g. omega (arith, g, invalid-kind c k (entry_at s.trees t).class n r))
       go true p Steal r = miss (λ q g. omega (arith, g, steal-kind c k (entry_at s.trees t).class n r))
@@ -113,13 +109,13 @@ module _ {A : Type 0} (Q : A → Type 0) (s : State) where
   sync-ind t n y m hit miss = go (entry_at s.trees t).reserved refl (ltb n (entry_at s.trees t).free) refl
     where
       go : (a : Bool) → (entry_at s.trees t).reserved ≡ a → (b : Bool) → ltb n (entry_at s.trees t).free ≡ b
-          → Q (on_sync (keep_sync s.trees t (entry_at s.trees t) (pick a (pick b (Took.Yes (entry 0 true (entry_at s.trees t).class)) Took.No) Took.No)) s y m)
+          → Q (on_sync (keep_sync s.trees t (entry_at s.trees t) (pick a (pick b (Some (entry 0 true (entry_at s.trees t).class)) None) None)) s y m)
       go false p b e = miss (λ u v. true-false u p)
       go true p false e = miss (λ u v. (let l : (entry_at s.trees t).free ≤ n = ltb-false _ _ e in omega arith))
       go true p true e = hit p (ltb-true _ _ e)
 
   -- a local's payment
-  pub held-ind : (z j : ℕ) (name : Name) (n : ℕ) (y : ℕ → State → A) (f : ℕ → ℕ → State → A) (m : State → A)
+  pub held-ind : (z j : ℕ) (name : Option ℕ) (n : ℕ) (y : ℕ → State → A) (f : ℕ → ℕ → State → A) (m : State → A)
       → ((local_at s.locals j).present ≡ true → in_tree z (local_at s.locals j).row name ≡ true → n ≤ (local_at s.locals j).free
       → Q (y (local_at s.locals j).row (with_locals s (set s.locals j (local_word (reservation (local_at s.locals j).row ((local_at s.locals j).free - n)))))))
       → ((local_at s.locals j).present ≡ true → (in_tree z (local_at s.locals j).row name ≡ true → n ≤ (local_at s.locals j).free → ⊥) → Q (f (local_at s.locals j).row (local_at s.locals j).free s))
@@ -159,17 +155,17 @@ module _ {A : Type 0} (Q : A → Type 0) (s : State) where
   clear-ind j y h = h
 
   -- a lower call: the block j was free and is now held, or nothing
-  pub found-ind : (z row o : ℕ) (name : Name) (y : ℕ → State → A) (m : State → A) → 6 ≤ z → z ≤ 18 → o ≤ z
+  pub found-ind : (z row o : ℕ) (name : Option ℕ) (y : ℕ → State → A) (m : State → A) → 6 ≤ z → z ≤ 18 → o ≤ z
       → ((j : ℕ) → Named z s.bits row o name j → Q (y (j * 2 ^ o) (with_try s (mark true s.bits o j))))
-      → (lower_find z s.bits row o name ≡ Nothing → Q (m (with_try s s.bits))) → Q (on_found (lower_get z s.bits row o name) s y m)
+      → (lower_find z s.bits row o name ≡ None → Q (m (with_try s s.bits))) → Q (on_found (lower_get z s.bits row o name) s y m)
   unfolding on_found
   found-ind z row o name y m least most small hit miss =
-      get-ind z s.bits o least most small (λ (x : Out Found (List ℕ)). Q (on_found x s y m)) row name hit miss
+      get-ind z s.bits o least most small (λ (x : Out (Option ℕ) (List ℕ)). Q (on_found x s y m)) row name hit miss
 
 -- the lower asked for frames that were taken of tree t
-pub ask_lower-ind : (Q : Way → Type 0) (c : Config) (q : Request) (name : Name) (t row k : ℕ) (s : State) → 6 ≤ c.tree_order → c.tree_order ≤ 18 → q.order ≤ c.tree_order
+pub ask_lower-ind : (Q : Way → Type 0) (c : Config) (q : Request) (name : Option ℕ) (t row k : ℕ) (s : State) → 6 ≤ c.tree_order → c.tree_order ≤ 18 → q.order ≤ c.tree_order
     → ((j : ℕ) → Named c.tree_order s.bits row q.order name j → Q (out (Got.Done (j * 2 ^ q.order) k) (with_try s (mark true s.bits q.order j))))
-    → (lower_find c.tree_order s.bits row q.order name ≡ Nothing → Q (out Got.Missed (put_entry c t (size q) (with_try s s.bits))))
+    → (lower_find c.tree_order s.bits row q.order name ≡ None → Q (out Got.Missed (put_entry c t (size q) (with_try s s.bits))))
     → Q (ask_lower c q name t row k s)
 unfolding ask_lower done missed
 ask_lower-ind Q c q name t row k s least most small hit miss = found-ind Q s c.tree_order row q.order name _ _ least most small hit miss

@@ -1,38 +1,35 @@
 -- Whatever holds of every way on from a step, whatever its answer, holds of the step. Assumes nothing.
-use Rattle.std.specs.Prelude.{Bool, List, ℕ}
+use Rattle.std.specs.Prelude.{Bool, List, ℕ, Option, Some, None}
 use Rattle.std.proofs.Math.Bool.{true, false}
 use Rattle.rules.specs.Base.{Out, out}
 use Rattle.rules.specs.Words.{Config}
 use Rattle.rules.specs.Entries.{entry_unreserve}
 use Rattle.rules.specs.declared.Tree.{Tree}
 use Rattle.rules.specs.declared.Local.{Local}
-use Rattle.rules.specs.declared.Took.{Took}
 use Rattle.rules.specs.declared.Taken.{Taken}
-use Rattle.rules.specs.declared.Synced.{Synced}
 use Rattle.rules.specs.declared.Held.{Held}
-use Rattle.rules.specs.declared.Found.{Found}
 use Rattle.rules_calls.specs.State.{State, with_trees, with_locals, with_try, on_took, on_taken, on_sync, on_held, on_put, on_swap, on_found, unreserve, unreserve_local}
 use Rattle.law_calls.specs.Steps.{ifte-ind}
 
 module _ {A : Type 0} (Q : A → Type 0) where
-  pub took-any : (o : Out Took (List ℕ)) (s : State) (y : Tree → State → A) (m : State → A)
+  pub took-any : (o : Out (Option Tree) (List ℕ)) (s : State) (y : Tree → State → A) (m : State → A)
       → ((e : Tree) (t : List ℕ) → Q (y e (with_trees s t))) → ((t : List ℕ) → Q (m (with_trees s t))) → Q (on_took o s y m)
   unfolding on_took
-  took-any (out (Took.Yes e) t) s y m f g = f e t
-  took-any (out Took.No t) s y m f g = g t
+  took-any (out (Some e) t) s y m f g = f e t
+  took-any (out None t) s y m f g = g t
 
-  pub taken-any : (o : Out Taken (List ℕ)) (s : State) (y : Tree → State → A) (w : ℕ → State → A) (m : State → A)
+  pub taken-any : (o : Out (Option Taken) (List ℕ)) (s : State) (y : Tree → State → A) (w : ℕ → State → A) (m : State → A)
       → ((e : Tree) (t : List ℕ) → Q (y e (with_trees s t))) → ((n : ℕ) (t : List ℕ) → Q (w n (with_trees s t))) → ((t : List ℕ) → Q (m (with_trees s t))) → Q (on_taken o s y w m)
   unfolding on_taken
-  taken-any (out (Taken.Part e) t) s y w m f h g = f e t
-  taken-any (out (Taken.Whole e n) t) s y w m f h g = h n t
-  taken-any (out Taken.No t) s y w m f h g = g t
+  taken-any (out (Some (Taken.Part e)) t) s y w m f h g = f e t
+  taken-any (out (Some (Taken.Whole e n)) t) s y w m f h g = h n t
+  taken-any (out None t) s y w m f h g = g t
 
-  pub sync-any : (o : Out Synced (List ℕ)) (s : State) (y : ℕ → State → A) (m : State → A)
+  pub sync-any : (o : Out (Option ℕ) (List ℕ)) (s : State) (y : ℕ → State → A) (m : State → A)
       → ((n : ℕ) (t : List ℕ) → Q (y n (with_trees s t))) → ((t : List ℕ) → Q (m (with_trees s t))) → Q (on_sync o s y m)
   unfolding on_sync
-  sync-any (out (Synced.Free n) t) s y m f g = f n t
-  sync-any (out Synced.Nothing t) s y m f g = g t
+  sync-any (out (Some n) t) s y m f g = f n t
+  sync-any (out None t) s y m f g = g t
 
   pub held_any : (o : Out Held (List ℕ)) (s : State) (y : ℕ → State → A) (f : ℕ → ℕ → State → A) (m : State → A)
       → ((row : ℕ) (l : List ℕ) → Q (y row (with_locals s l))) → ((row free : ℕ) (l : List ℕ) → Q (f row free (with_locals s l))) → ((l : List ℕ) → Q (m (with_locals s l))) → Q (on_held o s y f m)
@@ -50,11 +47,11 @@ module _ {A : Type 0} (Q : A → Type 0) where
   unfolding on_swap
   swap_any (out old l) s y f = f old l
 
-  pub found-any : (o : Out Found (List ℕ)) (s : State) (y : ℕ → State → A) (m : State → A)
+  pub found-any : (o : Out (Option ℕ) (List ℕ)) (s : State) (y : ℕ → State → A) (m : State → A)
       → ((f : ℕ) (b : List ℕ) → Q (y f (with_try s b))) → ((b : List ℕ) → Q (m (with_try s b))) → Q (on_found o s y m)
   unfolding on_found
-  found-any (out (Found.At x) b) s y m f g = f x b
-  found-any (out Found.Nothing b) s y m f g = g b
+  found-any (out (Some x) b) s y m f g = f x b
+  found-any (out None b) s y m f g = g b
 
   pub unreserve-any : (c : Config) (i k n : ℕ) (s : State) (y m : State → A) → ((t : List ℕ) → Q (y (with_trees s t))) → ((t : List ℕ) → Q (m (with_trees s t))) → Q (unreserve c i k n s y m)
   unfolding unreserve

@@ -1,6 +1,6 @@
 -- What the lower's get finds and what its put gives back, and one law of each for any claim on the answer. Assumes nothing.
 use Rattle.std.proofs.Math.Path.{◌≡◌, refl, ap, subst}
-use Rattle.std.proofs.Common.{sym, ◌∙◌, mul_assoc}
+use Rattle.std.proofs.Common.{sym, ◌∙◌, mul_assoc, Option, Some, None}
 use Rattle.std.specs.Prelude.{Bool, List, leb, ltb}
 use Rattle.std.proofs.Math.Bool.{true, false}
 use Prim.Native.Nat.{ℕ, suc, ◌+◌, ◌-◌, ◌*◌, ◌/◌, ◌^◌, ◌<◌, ◌≤◌}
@@ -13,10 +13,6 @@ use borrow.Author.Tests.{leb-true, ltb-true, eqb-true, eqb-false}
 use Rattle.rules.specs.Base.{pick, Out, out}
 use Rattle.rules.specs.Words.{tree_frames, tree_rows}
 use Rattle.rules.specs.Lower.{held_in, mark, search_in, has_tree, lower_find, lower_take, lower_get, lower_put}
-use Rattle.rules.specs.declared.Found.{Found}
-use Rattle.rules.specs.declared.Found.TheVariants.{At, Nothing}
-use Rattle.rules.specs.declared.Name.{Name}
-use Rattle.rules.specs.declared.Name.TheVariants.{Any, Frame}
 use Rattle.law_rules.specs.All.{both_left, both_right}
 use Rattle.law_rules.specs.Power.{Inside, in_tree, tree-words}
 use Rattle.law_rules.specs.Block.{Block, block_of}
@@ -48,17 +44,17 @@ module _ (z : ℕ) (ws : List ℕ) (t : ℕ) (least : 6 ≤ z) (most : z ≤ 18)
       record { order = most; inside = omega (arith, has_words); small = has-small }
 
 -- the tree in which a get seeks: that of the named frame, or of the hint's row
-abbrev pub sought_tree : ℕ → ℕ → Name → ℕ
-sought_tree z row Any = row / tree_rows z
-sought_tree z row (Frame f) = f / tree_frames z
+abbrev pub sought_tree : ℕ → ℕ → Option ℕ → ℕ
+sought_tree z row None = row / tree_rows z
+sought_tree z row (Some f) = f / tree_frames z
 
 -- the block that a name asks for
-abbrev pub IsNamed : Name → ℕ → ℕ → Type 0
-IsNamed Any o j = Unit {0}
-IsNamed (Frame f) o j = j ≡ f / 2 ^ o
+abbrev pub IsNamed : Option ℕ → ℕ → ℕ → Type 0
+IsNamed None o j = Unit {0}
+IsNamed (Some f) o j = j ≡ f / 2 ^ o
 
 -- the block j that a get finds: wholly free, in the bitmap, in the tree that is sought, and the named one
-pub record Named (z : ℕ) (ws : List ℕ) (row o : ℕ) (name : Name) (j : ℕ) : Type 0 where
+pub record Named (z : ℕ) (ws : List ℕ) (row o : ℕ) (name : Option ℕ) (j : ℕ) : Type 0 where
   pub block : Block ws o j
   pub free : held_in ws o j ≡ 0
   pub has : has_tree z ws (sought_tree z row name) ≡ true
@@ -78,40 +74,40 @@ module _ (z : ℕ) (ws : List ℕ) (o : ℕ) (least : 6 ≤ z) (most : z ≤ 18)
   frame-block f e = block_of ws z o f small (has_block z ws (f / tree_frames z) least most e)
 
   -- what is found
-  pub find-is : (row : ℕ) (name : Name) (j : ℕ) → lower_find z ws row o name ≡ At j → Named z ws row o name j
+  pub find-is : (row : ℕ) (name : Option ℕ) (j : ℕ) → lower_find z ws row o name ≡ Some j → Named z ws row o name j
   unfolding lower_find
-  find-is row Any j e = go (has_tree z ws (row / tree_rows z)) refl e
+  find-is row None j e = go (has_tree z ws (row / tree_rows z)) refl e
     where
-      go : (t : Bool) → has_tree z ws (row / tree_rows z) ≡ t → pick t (search_in z ws (row / tree_rows z) o row) Nothing ≡ At j → Named z ws row o Any j
+      go : (t : Bool) → has_tree z ws (row / tree_rows z) ≡ t → pick t (search_in z ws (row / tree_rows z) o row) None ≡ Some j → Named z ws row o None j
       go true q p =
           let s = search-found z ws (row / tree_rows z) o row j small p in
           let b : Block ws z (row / tree_rows z) = has_block z ws (row / tree_rows z) least most q in
           let i : row / tree_rows z * 2 ^ z + 2 ^ z ≤ length ws * 64 = b.inside in
           record { block = record { order = omega arith; inside = omega (arith, s.inside.high); small = b.small }; free = s.free; has = q; inside = s.inside; named = tt }
       go false q p = absurd (let c : ◌≡◌ {A = ℕ} 0 1 = cc in omega arith)
-  find-is row (Frame f) j e = go (has_tree z ws (f / tree_frames z)) refl (eqb (held_in ws o (f / 2 ^ o)) 0) refl e
+  find-is row (Some f) j e = go (has_tree z ws (f / tree_frames z)) refl (eqb (held_in ws o (f / 2 ^ o)) 0) refl e
     where
       go : (t : Bool) → has_tree z ws (f / tree_frames z) ≡ t → (u : Bool) → eqb (held_in ws o (f / 2 ^ o)) 0 ≡ u
-          → pick t (pick u (At (f / 2 ^ o)) Nothing) Nothing ≡ At j → Named z ws row o (Frame f) j
+          → pick t (pick u (Some (f / 2 ^ o)) None) None ≡ Some j → Named z ws row o (Some f) j
       go true q true r p =
           let k : f / 2 ^ o ≡ j = cc in
-          let b : Named z ws row o (Frame f) (f / 2 ^ o) =
+          let b : Named z ws row o (Some f) (f / 2 ^ o) =
           record { block = frame-block f q; free = eqb-true _ _ r; has = q; inside = in_tree z o f small; named = refl } in
-          subst (λ (x : ℕ). Named z ws row o (Frame f) x) k b
+          subst (λ (x : ℕ). Named z ws row o (Some f) x) k b
       go true q false r p = absurd (let c : ◌≡◌ {A = ℕ} 0 1 = cc in omega arith)
       go false q u r p = absurd (let c : ◌≡◌ {A = ℕ} 0 1 = cc in omega arith)
 
   -- a claim on the answer of a get: of the found block, now held, and of nothing
-  pub get-ind : (Q : Out Found (List ℕ) → Type 0) (row : ℕ) (name : Name)
-      → ((j : ℕ) → Named z ws row o name j → Q (out (At (j * 2 ^ o)) (mark true ws o j)))
-      → (lower_find z ws row o name ≡ Nothing → Q (out Nothing ws))
+  pub get-ind : (Q : Out (Option ℕ) (List ℕ) → Type 0) (row : ℕ) (name : Option ℕ)
+      → ((j : ℕ) → Named z ws row o name j → Q (out (Some (j * 2 ^ o)) (mark true ws o j)))
+      → (lower_find z ws row o name ≡ None → Q (out None ws))
       → Q (lower_get z ws row o name)
   unfolding lower_get lower_take
   get-ind Q row name found nothing = go (lower_find z ws row o name) refl
     where
-      go : (x : Found) → lower_find z ws row o name ≡ x → Q (lower_take ws o (lower_find z ws row o name))
-      go (At j) e = rw e (found j (find-is row name j e))
-      go Nothing e = rw e (nothing e)
+      go : (x : Option ℕ) → lower_find z ws row o name ≡ x → Q (lower_take ws o (lower_find z ws row o name))
+      go (Some j) e = rw e (found j (find-is row name j e))
+      go None e = rw e (nothing e)
 
   -- a claim on the answer of a put: of the block, now free, and of a refusal
   pub put-ind : (Q : Out Bool (List ℕ) → Type 0) (f : ℕ)

@@ -1,5 +1,5 @@
 -- The first word from a row on that has a clear bit: a search for a small block upward from the row may begin there. Assumes nothing.
-use Rattle.std.specs.Prelude.{◌≡◌, refl, Bool, true, false, not, List, eqb, leb, get_or}
+use Rattle.std.specs.Prelude.{◌≡◌, refl, Bool, true, false, not, List, eqb, leb, get_or, Option, Some, None}
 use Rattle.std.proofs.Math.Path.{sym, ap}
 use Rattle.std.proofs.Common.{◌∙◌, mul_assoc, div-lt_iff_lt-mul, pow-add, ne_eqb, eq-eqb, eqb-true}
 use Rattle.std.proofs.Math.Logic.{⊎_elim}
@@ -11,8 +11,6 @@ use Rattle.std.proofs.lemmas.Bool.{lt-leb, eqb-false, not-false}
 use Rattle.rules.specs.Base.{first_in}
 use Rattle.rules.specs.Words.{tree_rows}
 use Rattle.rules.specs.Lower.{bit, held, held_in, hit}
-use Rattle.rules.specs.declared.Found.{Found}
-use Rattle.rules.specs.declared.Found.TheVariants.{At, Nothing}
 use Rattle.law_rules.specs.All.{both_false}
 use Rattle.law_rules.specs.Cases.{below_or}
 use Rattle.law_rules.specs.Power.{inside, row_block, row_first}
@@ -43,13 +41,13 @@ unfolding open_from has_clear held_in
 open-here ws a n k l e h ne =
     let d : eqb (held ws ((a + k) * 64) 64) 64 ≡ false = ne_eqb (held ws ((a + k) * 64) 64) 64 (λ z.
     let q : get_or ws (a + k) 0 + 1 ≡ 2 ^ 64 = ones-every 64 _ h (sym (held_whole ws (a + k) h) ∙ z) in ne (omega arith)) in
-    let f : first_in (has_clear ws) a n ≡ At (a + k) = first-at (has_clear ws) a n (a + k) (omega arith) (omega arith) (run-full ws a k e) (simp d) in
+    let f : first_in (has_clear ws) a n ≡ Some (a + k) = first-at (has_clear ws) a n (a + k) (omega arith) (omega arith) (run-full ws a k e) (simp d) in
     sym (ap (found_or (a + n)) f)
 
 pub open-end : (ws : List ℕ) (a n : ℕ) → held ws (a * 64) (n * 64) ≡ n * 64 → a + n ≡ open_from ws a n
 unfolding open_from
 open-end ws a n e =
-    let f : first_in (has_clear ws) a n ≡ Nothing = first-none (has_clear ws) a n (run-full ws a n e) in
+    let f : first_in (has_clear ws) a n ≡ None = first-none (has_clear ws) a n (run-full ws a n e) in
     sym (ap (found_or (a + n)) f)
 
 -- the words before it are wholly held
@@ -65,11 +63,11 @@ opened ws a n q e = go (first_in (has_clear ws) a n) refl e
     full_at : (w : ℕ) → has_clear ws w ≡ false → held_in ws 6 w ≡ 64
     full_at w f = eqb-true (held_in ws 6 w) 64 (not-false (eqb (held_in ws 6 w) 64) f)
 
-    go : (f : Found) → first_in (has_clear ws) a n ≡ f → q ≡ found_or (a + n) f → Opened ws a n q
-    go (At j) d r =
+    go : (f : Option ℕ) → first_in (has_clear ws) a n ≡ f → q ≡ found_or (a + n) f → Opened ws a n q
+    go (Some j) d r =
         let s = first-sound (has_clear ws) a n j d in
         record { low = omega (arith, s.low); high = omega (arith, s.high); full = λ w x y. full_at w (first-least (has_clear ws) a n j d w x (omega arith)) }
-    go Nothing d r = record { low = omega arith; high = omega arith; full = λ w x y. full_at w (first-empty (has_clear ws) a n d w x (omega arith)) }
+    go None d r = record { low = omega arith; high = omega arith; full = λ w x y. full_at w (first-empty (has_clear ws) a n d w x (omega arith)) }
 
 -- where none has one, the run is wholly held
 whole : (ws : List ℕ) (a n : ℕ) → Opened ws a n (a + n) → held ws (a * 64) (n * 64) ≡ n * 64
@@ -118,7 +116,7 @@ module _ (ws : List ℕ) (o row n q : ℕ) (h : o < 6) (p : Opened ws row n q) w
     one = let e : (z - 6) + (6 - o) ≡ z - o = omega arith in sym (pow-add 2 (z - 6) (6 - o)) ∙ ap (λ (x : ℕ). 2 ^ x) e
 
     -- no word of the tree from the row on has a clear bit
-    pub open_none : q ≡ t * tree_rows z + tree_rows z → Nothing ≡ seek_in ws z o t (row * 64 / 2 ^ o)
+    pub open_none : q ≡ t * tree_rows z + tree_rows z → None ≡ seek_in ws z o t (row * 64 / 2 ^ o)
     unfolding seek_in
     open_none e =
         let a : (t * 2 ^ (z - 6) + 2 ^ (z - 6)) * 2 ^ (6 - o) ≡ t * 2 ^ (z - 6) * 2 ^ (6 - o) + 2 ^ (z - 6) * 2 ^ (6 - o) = add-mul (t * 2 ^ (z - 6)) (2 ^ (z - 6)) (2 ^ (6 - o)) in
@@ -126,10 +124,10 @@ module _ (ws : List ℕ) (o row n q : ℕ) (h : o < 6) (p : Opened ws row n q) w
         sym (first-none (hit ws o (row * 64 / 2 ^ o)) (t * 2 ^ (z - o)) (2 ^ (z - o)) (λ i l m. no_hit i (omega (arith, rows, one))))
 
     -- the word has a free block
-    pub open-found : (i : ℕ) (x : Found) → t * tree_rows z ≤ row → q < t * tree_rows z + tree_rows z → x ≡ seek_in ws 6 o q 0 → x ≡ At i → At i ≡ seek_in ws z o t (row * 64 / 2 ^ o)
+    pub open-found : (i : ℕ) (x : Option ℕ) → t * tree_rows z ≤ row → q < t * tree_rows z + tree_rows z → x ≡ seek_in ws 6 o q 0 → x ≡ Some i → Some i ≡ seek_in ws z o t (row * 64 / 2 ^ o)
     unfolding seek_in
     open-found i x a b e f =
-        let c : seek_in ws 6 o q (row * 64 / 2 ^ o) ≡ At i = seek-all ws 6 o q (row * 64 / 2 ^ o) (row_first o row q (omega arith) p.low) ∙ sym e ∙ f in
+        let c : seek_in ws 6 o q (row * 64 / 2 ^ o) ≡ Some i = seek-all ws 6 o q (row * 64 / 2 ^ o) (row_first o row q (omega arith) p.low) ∙ sym e ∙ f in
         let m : suc q * 2 ^ (6 - o) ≤ (t * 2 ^ (z - 6) + 2 ^ (z - 6)) * 2 ^ (6 - o) = mul-le-mul_right (2 ^ (6 - o)) b in
         let m' : (t * 2 ^ (z - 6) + 2 ^ (z - 6)) * 2 ^ (6 - o) ≡ t * 2 ^ (z - 6) * 2 ^ (6 - o) + 2 ^ (z - 6) * 2 ^ (6 - o) = add-mul (t * 2 ^ (z - 6)) (2 ^ (z - 6)) (2 ^ (6 - o)) in
         let s : suc q ≡ q + 1 = omega arith in

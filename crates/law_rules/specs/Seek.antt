@@ -1,18 +1,16 @@
 -- The search by halves: `seek_in` is the first free block not before `from` in the block i of order o; its steps as the code has them. Assumes nothing.
-use Rattle.std.specs.Prelude.{◌≡◌, refl, Bool, true, false, List, ℕ, suc, ◌+◌, ◌-◌, ◌*◌, ◌/◌, ◌^◌, ◌<◌, ◌≤◌, eqb, leb, ltb}
+use Rattle.std.specs.Prelude.{◌≡◌, refl, Bool, true, false, List, ℕ, suc, ◌+◌, ◌-◌, ◌*◌, ◌/◌, ◌^◌, ◌<◌, ◌≤◌, eqb, leb, ltb, Option, Some, None}
 use Rattle.std.proofs.Common.{sym, ap, ◌∙◌, mul-le-mul_right, div-mul-le_self, arith, pow_pos, shr-shr, le-leb, ne_eqb, eqb-true, ltb-true, ltb-false}
 use Rattle.std.proofs.lemmas.Bool.{lt-leb}
 use Rattle.rules.specs.Base.{pick, either, or_found, first_in}
 use Rattle.rules.specs.Lower.{held_in, hit}
-use Rattle.rules.specs.declared.Found.{Found}
-use Rattle.rules.specs.declared.Found.TheVariants.{At, Nothing}
 use Rattle.law_rules.specs.All.{both_false}
 use Rattle.law_rules.specs.Power.{inside, row_up, row_first}
 use Rattle.law_rules.specs.Run.{held-part-of}
 use Rattle.law_rules.specs.First.{first-none, first-half, first_leaf, first-ext}
 
 -- the first wholly free block of order w, not before the block `from`, in the block i of order o
-unfoldable pub seek_in : List ℕ → ℕ → ℕ → ℕ → ℕ → Found
+unfoldable pub seek_in : List ℕ → ℕ → ℕ → ℕ → ℕ → Option ℕ
 seek_in ws o w i from = first_in (hit ws w from) (i * 2 ^ (o - w)) (2 ^ (o - w))
 
 -- the search as the definition of the lower's search has it
@@ -33,7 +31,7 @@ seek-all ws o w i from h = first-ext (hit ws w from) (hit ws w 0) (i * 2 ^ (o - 
     simp (a, b))
 
 -- a block that is wholly held has no free block in it
-pub held_none : (ws : List ℕ) (o w i from : ℕ) → w ≤ o → held_in ws o i ≡ 2 ^ o → seek_in ws o w i from ≡ Nothing
+pub held_none : (ws : List ℕ) (o w i from : ℕ) → w ≤ o → held_in ws o i ≡ 2 ^ o → seek_in ws o w i from ≡ None
 unfolding seek_in held_in
 held_none ws o w i from h e =
     first-none (hit ws w from) (i * 2 ^ (o - w)) (2 ^ (o - w)) (λ j l m.
@@ -43,7 +41,7 @@ held_none ws o w i from h e =
     both_false (leb from j) (eqb (held_in ws w j) 0) (ne_eqb (held_in ws w j) 0 (λ z. omega arith)))
 
 -- nor has one that lies before the row's block
-before-none : (ws : List ℕ) (o w i from : ℕ) → i < from / 2 ^ (o - w) → seek_in ws o w i from ≡ Nothing
+before-none : (ws : List ℕ) (o w i from : ℕ) → i < from / 2 ^ (o - w) → seek_in ws o w i from ≡ None
 unfolding seek_in
 before-none ws o w i from h =
     let k : ℕ = o - w in
@@ -51,11 +49,11 @@ before-none ws o w i from h =
     let b : from / 2 ^ k * 2 ^ k ≤ from = div-mul-le_self from (2 ^ k) in
     first-none (hit ws w from) (i * 2 ^ k) (2 ^ k) (λ j l m. simp (lt-leb from j (omega arith)))
 
-passed_none : (ws : List ℕ) (o w i row : ℕ) → 6 ≤ o → w ≤ o → passed_by ws o i row ≡ true → seek_in ws o w i (row * 64 / 2 ^ w) ≡ Nothing
+passed_none : (ws : List ℕ) (o w i row : ℕ) → 6 ≤ o → w ≤ o → passed_by ws o i row ≡ true → seek_in ws o w i (row * 64 / 2 ^ w) ≡ None
 unfolding passed_by
 passed_none ws o w i row g h e = go (ltb i (row / 2 ^ (o - 6))) refl e
   where
-    go : (t : Bool) → ltb i (row / 2 ^ (o - 6)) ≡ t → either t (eqb (held_in ws o i) (2 ^ o)) ≡ true → seek_in ws o w i (row * 64 / 2 ^ w) ≡ Nothing
+    go : (t : Bool) → ltb i (row / 2 ^ (o - 6)) ≡ t → either t (eqb (held_in ws o i) (2 ^ o)) ≡ true → seek_in ws o w i (row * 64 / 2 ^ w) ≡ None
     go true q p = before-none ws o w i (row * 64 / 2 ^ w) (rw (row_up o w row g h) (ltb-true i _ q))
     go false q p = held_none ws o w i (row * 64 / 2 ^ w) h (eqb-true (held_in ws o i) (2 ^ o) p)
 
@@ -68,7 +66,7 @@ passed-not ws o i row e = go (ltb i (row / 2 ^ (o - 6))) refl e
     go false q p = ltb-false i _ q
 
 -- the block itself is the one sought
-pub leaf : (ws : List ℕ) (o w i from : ℕ) → o ≡ w → from ≤ i → seek_in ws o w i from ≡ pick (eqb (held_in ws o i) 0) (At i) Nothing
+pub leaf : (ws : List ℕ) (o w i from : ℕ) → o ≡ w → from ≤ i → seek_in ws o w i from ≡ pick (eqb (held_in ws o i) 0) (Some i) None
 unfolding seek_in
 leaf ws o w i from e l =
     let k : leb from i ≡ true = le-leb from i l in
@@ -96,14 +94,14 @@ module _ (ws : List ℕ) (o w i row : ℕ) (g : 6 ≤ o) (more : w ≤ o) where
         let v : row * 64 / 2 ^ w / 2 ^ 0 ≡ row / 2 ^ (o - 6) = rw z at u in
         omega arith
 
-    pub leaf-yes : r ≡ true → At i ≡ seek_in ws o w i (row * 64 / 2 ^ w)
+    pub leaf-yes : r ≡ true → Some i ≡ seek_in ws o w i (row * 64 / 2 ^ w)
     leaf-yes q = sym (leaf ws o w i (row * 64 / 2 ^ w) e start ∙ simp (sym h ∙ q))
 
-    pub leaf-no : r ≡ false → Nothing ≡ seek_in ws o w i (row * 64 / 2 ^ w)
+    pub leaf-no : r ≡ false → None ≡ seek_in ws o w i (row * 64 / 2 ^ w)
     leaf-no q = sym (leaf ws o w i (row * 64 / 2 ^ w) e start ∙ simp (sym h ∙ q))
 
   -- a word
-  pub at-word : (r : Found) → o ≡ 6 → row / 2 ^ (o - 6) ≤ i → r ≡ seek_in ws 6 w i 0 → r ≡ seek_in ws o w i (row * 64 / 2 ^ w)
+  pub at-word : (r : Option ℕ) → o ≡ 6 → row / 2 ^ (o - 6) ≤ i → r ≡ seek_in ws 6 w i 0 → r ≡ seek_in ws o w i (row * 64 / 2 ^ w)
   at-word r e l q =
       let z : o - 6 ≡ 0 = omega arith in
       let m : row / 2 ^ 0 ≤ i = rw z at l in
@@ -116,15 +114,15 @@ module _ (ws : List ℕ) (o w i row : ℕ) (g : 6 ≤ o) (more : w ≤ o) where
     split2 = halves ws o w i (row * 64 / 2 ^ w) (omega arith)
 
     -- the left half is passed over
-    pub right-only : (p : Bool) (y : Found) → p ≡ passed_by ws (o - 1) (i * 2) row → p ≡ true → y ≡ seek_in ws (o - 1) w (i * 2 + 1) (row * 64 / 2 ^ w) → y ≡ seek_in ws o w i (row * 64 / 2 ^ w)
+    pub right-only : (p : Bool) (y : Option ℕ) → p ≡ passed_by ws (o - 1) (i * 2) row → p ≡ true → y ≡ seek_in ws (o - 1) w (i * 2 + 1) (row * 64 / 2 ^ w) → y ≡ seek_in ws o w i (row * 64 / 2 ^ w)
     right-only p y e t r = r ∙ sym (split2 ∙ simp (passed_none ws (o - 1) w (i * 2) row (omega arith) (omega arith) (sym e ∙ t)))
 
     -- the left half is sought
-    module _ (x : Found) (l : x ≡ seek_in ws (o - 1) w (i * 2) (row * 64 / 2 ^ w)) where
-      pub from-left : (j : ℕ) → x ≡ At j → At j ≡ seek_in ws o w i (row * 64 / 2 ^ w)
+    module _ (x : Option ℕ) (l : x ≡ seek_in ws (o - 1) w (i * 2) (row * 64 / 2 ^ w)) where
+      pub from-left : (j : ℕ) → x ≡ Some j → Some j ≡ seek_in ws o w i (row * 64 / 2 ^ w)
       from-left j e = sym (split2 ∙ simp (sym l ∙ e))
 
-      pub from-right : (y : Found) → x ≡ Nothing → y ≡ seek_in ws (o - 1) w (i * 2 + 1) (row * 64 / 2 ^ w) → y ≡ seek_in ws o w i (row * 64 / 2 ^ w)
+      pub from-right : (y : Option ℕ) → x ≡ None → y ≡ seek_in ws (o - 1) w (i * 2 + 1) (row * 64 / 2 ^ w) → y ≡ seek_in ws o w i (row * 64 / 2 ^ w)
       from-right y e r = sym (split2 ∙ simp (sym l ∙ e, sym r))
 
     -- the row is not past the left half, where that is not passed over

@@ -1,5 +1,5 @@
 -- The search by halves within one word, which is a bitmap by itself: its steps as the code has them, and what it says of the whole bitmap. Assumes nothing.
-use Rattle.std.specs.Prelude.{◌≡◌, Bool, false, List, [], ◌∷◌, eqb, get_or}
+use Rattle.std.specs.Prelude.{◌≡◌, Bool, false, List, [], ◌∷◌, eqb, get_or, Option, Some, None}
 use Rattle.std.proofs.Math.Path.{refl, sym, ap}
 use Rattle.std.proofs.Common.{◌∙◌, mul-le-mul_left, pow_pos, pow_mono}
 use Rattle.std.proofs.Math.Bool.{true}
@@ -10,8 +10,6 @@ use Rattle.std.proofs.Math.Dec.{leb}
 use borrow.Author.Tests.{eqb-true, le-leb}
 use Rattle.rules.specs.Base.{first_in}
 use Rattle.rules.specs.Lower.{held, held_in, hit}
-use Rattle.rules.specs.declared.Found.{Found}
-use Rattle.rules.specs.declared.Found.TheVariants.{At, Nothing}
 use Rattle.law_rules.specs.Power.{pow-part, inside}
 use Rattle.law_rules.specs.Held.{held-bits}
 use Rattle.law_rules.specs.Block.{Block, half-left}
@@ -24,9 +22,9 @@ abbrev pub word : ℕ → List ℕ
 word w = w ∷ []
 
 -- the number that was found, or d
-abbrev pub found_or : ℕ → Found → ℕ
-found_or d (At i) = i
-found_or d Nothing = d
+abbrev pub found_or : ℕ → Option ℕ → ℕ
+found_or d (Some i) = i
+found_or d None = d
 
 -- the first wholly free block of order v in the block i of order o of a word; 64 where there is none
 unfoldable pub word_seek : ℕ → ℕ → ℕ → ℕ → ℕ
@@ -56,7 +54,7 @@ module _ (w o j n : ℕ) (e : n ≡ 2 ^ o) (b : Block (word w) o j) where
     word_held h = held-part-test (word w) o j n e r h field
 
 -- what is found is one of the word's 64 at most
-seek-lt : (w o v i j : ℕ) → v ≤ o → Block (word w) o i → seek_in (word w) o v i 0 ≡ At j → j < 64
+seek-lt : (w o v i j : ℕ) → v ≤ o → Block (word w) o i → seek_in (word w) o v i 0 ≡ Some j → j < 64
 unfolding seek_in
 seek-lt w o v i j h b e =
     let s = first-sound (hit (word w) v 0) (i * 2 ^ (o - v)) (2 ^ (o - v)) j e in
@@ -70,11 +68,11 @@ module _ (w o v i : ℕ) where
   module _ (r : Bool) (h : r ≡ eqb (held_in (word w) o i) 0) (e : o ≡ v) where
     pub word-yes : r ≡ true → i ≡ word_seek w o v i
     unfolding word_seek
-    word-yes q = let s : seek_in (word w) o v i 0 ≡ At i = leaf (word w) o v i 0 e (omega arith) ∙ simp (sym h ∙ q) in sym (ap (found_or 64) s)
+    word-yes q = let s : seek_in (word w) o v i 0 ≡ Some i = leaf (word w) o v i 0 e (omega arith) ∙ simp (sym h ∙ q) in sym (ap (found_or 64) s)
 
     pub word-no : r ≡ false → 64 ≡ word_seek w o v i
     unfolding word_seek
-    word-no q = let s : seek_in (word w) o v i 0 ≡ Nothing = leaf (word w) o v i 0 e (omega arith) ∙ simp (sym h ∙ q) in sym (ap (found_or 64) s)
+    word-no q = let s : seek_in (word w) o v i 0 ≡ None = leaf (word w) o v i 0 e (omega arith) ∙ simp (sym h ∙ q) in sym (ap (found_or 64) s)
 
   module _ (more : v ≤ o) (ne : o ≡ v → ⊥) where
     -- the left half is wholly held
@@ -92,17 +90,17 @@ module _ (w o v i : ℕ) where
       unfolding word_seek
       word-left h = go (seek_in (word w) (o - 1) v (i * 2) 0) refl l
         where
-          go : (f : Found) → seek_in (word w) (o - 1) v (i * 2) 0 ≡ f → x ≡ found_or 64 f → x ≡ found_or 64 (seek_in (word w) o v i 0)
-          go (At j) e q = let s : seek_in (word w) o v i 0 ≡ At j = halves (word w) o v i 0 (omega arith) ∙ simp e in q ∙ sym (ap (found_or 64) s)
-          go Nothing e q = absurd (omega arith)
+          go : (f : Option ℕ) → seek_in (word w) (o - 1) v (i * 2) 0 ≡ f → x ≡ found_or 64 f → x ≡ found_or 64 (seek_in (word w) o v i 0)
+          go (Some j) e q = let s : seek_in (word w) o v i 0 ≡ Some j = halves (word w) o v i 0 (omega arith) ∙ simp e in q ∙ sym (ap (found_or 64) s)
+          go None e q = absurd (omega arith)
 
       pub word_next : Block (word w) o i → 64 ≤ x → (y : ℕ) → y ≡ word_seek w (o - 1) v (i * 2 + 1) → y ≡ word_seek w o v i
       unfolding word_seek
       word_next b h y r = go (seek_in (word w) (o - 1) v (i * 2) 0) refl l
         where
-          go : (f : Found) → seek_in (word w) (o - 1) v (i * 2) 0 ≡ f → x ≡ found_or 64 f → y ≡ found_or 64 (seek_in (word w) o v i 0)
-          go (At j) e q = absurd (omega (arith, seek-lt w (o - 1) v (i * 2) j (omega arith) (half-left (word w) o v i more ne b) e))
-          go Nothing e q =
+          go : (f : Option ℕ) → seek_in (word w) (o - 1) v (i * 2) 0 ≡ f → x ≡ found_or 64 f → y ≡ found_or 64 (seek_in (word w) o v i 0)
+          go (Some j) e q = absurd (omega (arith, seek-lt w (o - 1) v (i * 2) j (omega arith) (half-left (word w) o v i more ne b) e))
+          go None e q =
               let s : seek_in (word w) o v i 0 ≡ seek_in (word w) (o - 1) v (i * 2 + 1) 0 = halves (word w) o v i 0 (omega arith) ∙ simp e in
               r ∙ sym (ap (found_or 64) s)
 
@@ -136,21 +134,21 @@ module _ (ws : List ℕ) (o q : ℕ) (h : o < 6) where
       ∙ ap (moved_by (q * 2 ^ (6 - o))) (s ∙ ap (λ (x : ℕ). first_in (hit (word (get_or ws q 0)) o 0) x (2 ^ (6 - o))) (sym z))
 
   module _ (x n : ℕ) (e : x ≡ word_seek (get_or ws q 0) 6 o 0) where
-    pub word-found : n ≡ 2 ^ (6 - o) → x < 64 → At (q * n + x) ≡ seek_in ws 6 o q 0
+    pub word-found : n ≡ 2 ^ (6 - o) → x < 64 → Some (q * n + x) ≡ seek_in ws 6 o q 0
     unfolding word_seek
     word-found p l = go (seek_in (word (get_or ws q 0)) 6 o 0 0) refl e
       where
-        go : (f : Found) → seek_in (word (get_or ws q 0)) 6 o 0 0 ≡ f → x ≡ found_or 64 f → At (q * n + x) ≡ seek_in ws 6 o q 0
-        go (At j) d r = let s : seek_in ws 6 o q 0 ≡ At (q * 2 ^ (6 - o) + j) = moved ∙ simp d in sym (rw (p, r) s)
-        go Nothing d r = absurd (omega arith)
+        go : (f : Option ℕ) → seek_in (word (get_or ws q 0)) 6 o 0 0 ≡ f → x ≡ found_or 64 f → Some (q * n + x) ≡ seek_in ws 6 o q 0
+        go (Some j) d r = let s : seek_in ws 6 o q 0 ≡ Some (q * 2 ^ (6 - o) + j) = moved ∙ simp d in sym (rw (p, r) s)
+        go None d r = absurd (omega arith)
 
-    pub word_none : 64 ≤ x → Nothing ≡ seek_in ws 6 o q 0
+    pub word_none : 64 ≤ x → None ≡ seek_in ws 6 o q 0
     unfolding word_seek
     word_none l = go (seek_in (word (get_or ws q 0)) 6 o 0 0) refl e
       where
-        go : (f : Found) → seek_in (word (get_or ws q 0)) 6 o 0 0 ≡ f → x ≡ found_or 64 f → Nothing ≡ seek_in ws 6 o q 0
-        go (At j) d r = absurd (omega (arith, seek-lt (get_or ws q 0) 6 o 0 j (omega arith) (word-block (get_or ws q 0)) d))
-        go Nothing d r = let s : seek_in ws 6 o q 0 ≡ Nothing = moved ∙ simp d in sym s
+        go : (f : Option ℕ) → seek_in (word (get_or ws q 0)) 6 o 0 0 ≡ f → x ≡ found_or 64 f → None ≡ seek_in ws 6 o q 0
+        go (Some j) d r = absurd (omega (arith, seek-lt (get_or ws q 0) 6 o 0 j (omega arith) (word-block (get_or ws q 0)) d))
+        go None d r = let s : seek_in ws 6 o q 0 ≡ None = moved ∙ simp d in sym s
 
 -- the product that the code makes fits
 pub word-mul : (o q n : ℕ) → n ≡ 2 ^ (6 - o) → q * n ≤ q * 64

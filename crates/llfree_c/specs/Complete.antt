@@ -1,8 +1,7 @@
 -- Each promise of the archive is complete: two answers that satisfy it for the same input are equal, and so is every lent word after them. Assumes nothing.
-use Rattle.std.specs.Prelude.{◌≡◌, Bool, List, ℕ}
+use Rattle.std.specs.Prelude.{◌≡◌, Bool, List, ℕ, Option}
 use Rattle.std.proofs.Common.{sym, ap, ◌∙◌}
 use Rattle.rules.specs.declared.Header.{Header}
-use Rattle.rules.specs.declared.Name.{Name}
 use Rattle.rules.specs.declared.Request.{Request}
 use Rattle.rules_calls.specs.Calls.{Told, telling, fresh}
 use Rattle.rules_calls.specs.declared.Tally.{Tally}
@@ -42,7 +41,7 @@ module _ (h : Header) (pairs : List ℕ) (s : Words) where
   pub start-complete : (free : Bool) (r q : ℕ) (e d : Words) → StartNumber h pairs free s r e → StartNumber h pairs free s q d → (r ≡ q) × (e ≡ d)
   start-complete free r q e d P Q = told-once r q e d (P ∙ sym Q)
 
-  pub get-complete : (name : Name) (a : Request) (r q : Answer) (e d : Words) → GetAnswer h pairs name a s r e → GetAnswer h pairs name a s q d → (r ≡ q) × (e ≡ d)
+  pub get-complete : (name : Option ℕ) (a : Request) (r q : Answer) (e d : Words) → GetAnswer h pairs name a s r e → GetAnswer h pairs name a s q d → (r ≡ q) × (e ≡ d)
   get-complete name a r q e d P Q =
       let T = P ∙ sym Q in (
         same_answer r q (ap (λ (x : Told). x.number) T) (ap (λ (x : Told). x.frame) T) (ap (λ (x : Told). x.class) T) (ap (λ (x : Told). x.looks) T) (ap (λ (x : Told). x.tries) T),

@@ -1,9 +1,8 @@
 -- The promises of the archive's functions, with numbers where the promises of crate `rules_calls` have enums. These very definitions stand in
 -- the `ensures` of the code. Assumes nothing.
-use Rattle.std.specs.Prelude.{◌≡◌, Bool, List, ℕ}
+use Rattle.std.specs.Prelude.{◌≡◌, Bool, List, ℕ, Option}
 use Rattle.rules.specs.Words.{config}
 use Rattle.rules.specs.declared.Header.{Header}
-use Rattle.rules.specs.declared.Name.{Name}
 use Rattle.rules.specs.declared.Request.{Request}
 use Rattle.rules_calls.specs.State.{st}
 use Rattle.rules_calls.specs.Calls.{telling, fresh, start, get, put, drain}
@@ -18,7 +17,7 @@ abbrev pub StartNumber : Header → List ℕ → Bool → Words → ℕ → Word
 StartNumber h pairs free s r e = telling r 0 0 (fresh e.trees e.locals e.bits) ≡ start (config h pairs) free s.trees s.locals s.bits
 
 -- of the frame that is named, if one is, and the request q: number, frame, class and counts
-abbrev pub GetAnswer : Header → List ℕ → Name → Request → Words → Answer → Words → Type 0
+abbrev pub GetAnswer : Header → List ℕ → Option ℕ → Request → Words → Answer → Words → Type 0
 GetAnswer h pairs name q s r e =
     telling r.number r.frame r.class (st e.trees e.locals e.bits r.looks r.tries) ≡ get (config h pairs) q name s.trees s.locals s.bits
 

@@ -1,38 +1,36 @@
 -- Laws of the loop over the locals of a class, from the given index round. z is the order of a tree. Assumes nothing.
-use Rattle.std.specs.Prelude.{◌≡◌, Bool, true, List, ℕ, ◌+◌, ◌%◌, ◌<◌, ◌≤◌, eqb}
+use Rattle.std.specs.Prelude.{◌≡◌, Bool, true, List, ℕ, ◌+◌, ◌%◌, ◌<◌, ◌≤◌, eqb, Option, None}
 use Rattle.std.proofs.Common.{sym, ap, ◌∙◌, add-zero, add_assoc, mod-eq_of_lt, eq-or-lt_of_le, eq-eqb, ne_eqb}
 use Rattle.std.proofs.Math.Logic.{⊎_elim}
 use Rattle.std.proofs.Math.Nat.{mod-lt, mod_self, mod-add-mod}
 use native.Mathlib.Omega.{arith}
 use Rattle.rules.specs.Base.{pick, sum, first_in}
 use Rattle.rules.specs.Words.{locals_of, slot, local_at}
-use Rattle.rules.specs.Locals.{has_enough, cyclic, first_local, payer_or}
-use Rattle.rules.specs.declared.Name.{Name}
-use Rattle.rules.specs.declared.Found.TheVariants.{Nothing}
+use Rattle.rules.specs.Locals.{has_enough, cyclic, first_local, payer_or, paying}
 use Rattle.rules.specs.declared.Payer.{Payer}
 use Rattle.law_rules.specs.First.{first-hit}
 
 -- the local of class k that pays, or nobody
-unfoldable pub payer_of : ℕ → List ℕ → List ℕ → ℕ → ℕ → Name → ℕ → Payer
-payer_of z ps ls k from name n = payer_or ps k from (first_local z ps ls k from name n) (λ _. Payer.Nobody)
+unfoldable pub payer_of : ℕ → List ℕ → List ℕ → ℕ → ℕ → Option ℕ → ℕ → Option Payer
+payer_of z ps ls k from name n = payer_or ps k from (first_local z ps ls k from name n) (λ _. None)
 
 -- of a class whose locals stand in `len` slots from `first` on: the slot of the one that is d further than the given index
 unfoldable pub round : ℕ → ℕ → ℕ → ℕ → ℕ
 round first len from d = first + (from + d) % len
 
 -- that local has enough
-unfoldable pub enough : ℕ → List ℕ → ℕ → ℕ → ℕ → Name → ℕ → ℕ → Bool
+unfoldable pub enough : ℕ → List ℕ → ℕ → ℕ → ℕ → Option ℕ → ℕ → ℕ → Bool
 enough z ls first len from name n d = has_enough z (local_at ls (round first len from d)) name n
 
-module _ (z : ℕ) (ps ls : List ℕ) (k from : ℕ) (name : Name) (n first len : ℕ) (f : first ≡ sum (locals_of ps) 0 k) (l : len ≡ locals_of ps k) where
+module _ (z : ℕ) (ps ls : List ℕ) (k from : ℕ) (name : Option ℕ) (n first len : ℕ) (f : first ≡ sum (locals_of ps) 0 k) (l : len ≡ locals_of ps k) where
   -- no local of the class, or none of them has enough
-  pub payer-nobody : first_in (enough z ls first len from name n) 0 len ≡ Nothing → Payer.Nobody ≡ payer_of z ps ls k from name n
+  pub payer-nobody : first_in (enough z ls first len from name n) 0 len ≡ None → None ≡ payer_of z ps ls k from name n
   unfolding payer_of payer_or first_local enough round cyclic slot
   payer-nobody h = rw (rw (f, l) at h)
 
   -- the first that has enough
-  pub payer-here : (d : ℕ) → d < len → first_in (enough z ls first len from name n) 0 d ≡ Nothing → enough z ls first len from name n d ≡ true
-      → Payer.Local k (round first len from d) ≡ payer_of z ps ls k from name n
+  pub payer-here : (d : ℕ) → d < len → first_in (enough z ls first len from name n) 0 d ≡ None → enough z ls first len from name n d ≡ true
+      → Some (paying k (round first len from d)) ≡ payer_of z ps ls k from name n
   unfolding payer_of payer_or first_local enough round cyclic slot
   payer-here d m h e = rw (f, l, rw (f, l) at (first-hit (enough z ls first len from name n) len d m h e))
 

@@ -6,10 +6,10 @@ ghost use Rattle.rules.specs.Base.{pick};
 ghost use Rattle.rules.specs.Locals.{has_enough};
 ghost use Rattle.local_first.specs.Round.{payer_of};
 
-use rules::{Header, Local, Name, Payer};
+use rules::{Header, Local, Payer};
 
 // Whether a local has enough, and the named tree.
-fn has_enough(l: Local, name: Name, n: usize) -> bool
+fn has_enough(l: Local, name: Option<usize>, n: usize) -> bool
     ensures { result ≡ has_enough 11 l name n }
 {
     if l.present {
@@ -35,27 +35,24 @@ pub fn first_local(
     locals: &[u64],
     class: usize,
     from: usize,
-    name: Name,
+    name: Option<usize>,
     n: usize,
-) -> Payer
+) -> Option<Payer>
     requires { class < 8 }
     ensures { result ≡ payer_of 11 h.places locals.now class from name n }
 {
     let len = word_header::locals_of(h, class);
     if len == 0 {
-        return Payer::Nobody;
+        return None;
     }
     let first = word_header::first_slot(h, class);
     let end = first + len;
     let mut j = first + from % len;
     for d in 0..len {
         if has_enough(local_words::load(locals, j), name, n) {
-            return Payer::Local {
-                class: class,
-                slot: j,
-            };
+            return Some(Payer { class, slot: j });
         }
         j = after(first, end, j);
     }
-    Payer::Nobody
+    None
 }

@@ -5,13 +5,12 @@ ghost use Rattle.std.specs.Prelude.{◌≡◌, true, ◌^◌, ◌<◌};
 ghost use Rattle.rules.specs.Base.{out};
 ghost use Rattle.rules.specs.Words.{local_at};
 ghost use Rattle.rules.specs.Locals.{local_take, local_put, has_enough};
-ghost use Rattle.rules.specs.declared.Name.{Name};
 ghost use Rattle.rules.specs.declared.Held.TheVariants as Held;
 
-use rules::{Held, Local, Name};
+use rules::{Held, Local};
 
 // Subtract from a local: the answer is its row.
-pub fn take(locals: &mut [u64], j: usize, name: Name, n: usize) -> Held
+pub fn take(locals: &mut [u64], j: usize, name: Option<usize>, n: usize) -> Held
     ensures { out result locals.new ≡ local_take 11 locals.old j name n }
 {
     let l = local_words::load(locals, j);
@@ -41,7 +40,7 @@ pub fn take(locals: &mut [u64], j: usize, name: Name, n: usize) -> Held
 
 // Subtract from a local that has enough: the answer is its row.
 pub fn pay(locals: &mut [u64], j: usize, n: usize) -> usize
-    ensures { (name : Name) → has_enough 11 (local_at locals.old j) name n ≡ true
+    ensures { (name : Option ℕ) → has_enough 11 (local_at locals.old j) name n ≡ true
         → out (Held.Row result) locals.new ≡ local_take 11 locals.old j name n }
 {
     let l = local_words::load(locals, j);

@@ -7,7 +7,7 @@ ghost use Rattle.rules.specs.Words.{config};
 ghost use Rattle.rules.specs.Locals.{may_pay, may_move, payer_in, steal_any, demote_any};
 ghost use Rattle.local_payers.specs.Loops.{payer_at};
 
-use rules::{Header, Kind, Name, Payer};
+use rules::{Header, Kind, Payer};
 
 // The test of a demote, or else of a steal.
 fn may(demote: bool, kind: Kind) -> bool
@@ -27,11 +27,11 @@ fn payer_at(
     locals: &[u64],
     class: usize,
     from: usize,
-    name: Name,
+    name: Option<usize>,
     n: usize,
     demote: bool,
     k: usize,
-) -> Payer
+) -> Option<Payer>
     requires { (class < 8) × (k < 8) }
     ensures { result ≡ payer_at (pick demote may_move may_pay) (config h table.now) locals.now class from name n k }
 {
@@ -39,9 +39,9 @@ fn payer_at(
         if may(demote, word_policy::ask(table, class, k, n)) {
             return local_first::first_local(h, locals, k, from, name, n);
         }
-        return Payer::Nobody;
+        return None;
     }
-    Payer::Nobody
+    None
 }
 
 // The first local that pays, over the classes from the i-th after the requested one on, modulo 8.
@@ -51,22 +51,22 @@ fn payer_in(
     locals: &[u64],
     class: usize,
     from: usize,
-    name: Name,
+    name: Option<usize>,
     n: usize,
     demote: bool,
     i: usize,
-) -> Payer
+) -> Option<Payer>
     requires { class < 8 }
     ensures { result ≡ payer_in (pick demote may_move may_pay) (config h table.now) locals.now class from name n i (8 - i) }
 {
     for d in i..8 {
         let k = (class + d) % 8;
         let payer = payer_at(h, table, locals, class, from, name, n, demote, k);
-        if let Payer::Local { class: _, slot: _ } = payer {
+        if payer.is_some() {
             return payer;
         }
     }
-    Payer::Nobody
+    None
 }
 
 // Steal: the first local that pays, over all classes from the requested one on.
@@ -76,9 +76,9 @@ pub fn steal_any(
     locals: &[u64],
     class: usize,
     from: usize,
-    name: Name,
+    name: Option<usize>,
     n: usize,
-) -> Payer
+) -> Option<Payer>
     requires { class < 8 }
     ensures { result ≡ steal_any (config h table.now) locals.now class from name n }
 {
@@ -92,9 +92,9 @@ pub fn demote_any(
     locals: &[u64],
     class: usize,
     from: usize,
-    name: Name,
+    name: Option<usize>,
     n: usize,
-) -> Payer
+) -> Option<Payer>
     requires { class < 8 }
     ensures { result ≡ demote_any (config h table.now) locals.now class from name n }
 {

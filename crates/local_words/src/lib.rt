@@ -6,7 +6,7 @@ ghost use Rattle.rules.specs.Words.{local_at};
 ghost use Rattle.rules.specs.Locals.{in_tree, local_row, local_swap, local_clear};
 ghost use Rattle.rules.specs.Base.{out};
 
-use rules::{Local, Name};
+use rules::Local;
 
 // The word of a local.
 pub fn word(locals: &[u64], j: usize) -> u64
@@ -32,12 +32,12 @@ pub fn load(locals: &[u64], j: usize) -> Local
 }
 
 // Whether a row is in the tree of the named frame, if one is named.
-pub fn in_tree(row: usize, name: Name) -> bool
+pub fn in_tree(row: usize, name: Option<usize>) -> bool
     ensures { result ≡ in_tree 11 row name }
 {
     match name {
-        Name::Any => true,
-        Name::Frame(f) => row / 32 == f / 2048,
+        None => true,
+        Some(f) => row / 32 == f / 2048,
     }
 }
 

@@ -5,7 +5,6 @@ ghost use Rattle.std.specs.Prelude.{◌≡◌, ◌≤◌};
 ghost use Rattle.rules.specs.Base.{out};
 ghost use Rattle.rules.specs.Lower.{has_tree, lower_find, lower_get, lower_put};
 
-use rules::{Found, Name};
 
 // Whether the bitmap has the words of a tree.
 fn has_tree(words: &[u64], tree: usize) -> bool
@@ -18,42 +17,38 @@ fn has_tree(words: &[u64], tree: usize) -> bool
 }
 
 // The block that a get would take: the named one if it is wholly free, or the first free one of the hint row's tree.
-fn find_block(words: &[u64], row: usize, order: usize, name: Name) -> Found
+fn find_block(words: &[u64], row: usize, order: usize, name: Option<usize>) -> Option<usize>
     requires { order ≤ 11 }
     ensures { result ≡ lower_find 11 words.now row order name }
 {
     match name {
-        Name::Any => {
+        None => {
             if has_tree(words, row / 32) {
                 return lower_seeks::find(words, row, order);
             }
-            Found::Nothing
+            None
         }
-        Name::Frame(f) => {
+        Some(f) => {
             if has_tree(words, f / 2048) {
                 if lower_blocks::is_free(words, order, f >> order) {
-                    return Found::At(f >> order);
+                    return Some(f >> order);
                 }
-                return Found::Nothing;
+                return None;
             }
-            Found::Nothing
+            None
         }
     }
 }
 
 // The lower's get: the first frame of the block that it takes. Total: in a tree that is not there nothing is found.
-pub fn lower_get(words: &mut [u64], row: usize, order: usize, name: Name) -> Found
+pub fn lower_get(words: &mut [u64], row: usize, order: usize, name: Option<usize>) -> Option<usize>
     requires { order ≤ 11 }
     ensures { out result words.new ≡ lower_get 11 words.old row order name }
 {
-    match find_block(words, row, order, name) {
-        Found::At(j) => {
-            let f = j * word_sizes::size(order);
-            lower_marks::hold(words, order, j);
-            Found::At(f)
-        }
-        Found::Nothing => Found::Nothing,
-    }
+    let j = find_block(words, row, order, name)?;
+    let f = j * word_sizes::size(order);
+    lower_marks::hold(words, order, j);
+    Some(f)
 }
 
 // The lower's put: whether every frame of the block was held; their bits are then clear. Total: a tree that is not there holds nothing.

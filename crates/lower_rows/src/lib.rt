@@ -6,7 +6,6 @@ ghost use Rattle.law_rules.specs.Block.{Block};
 ghost use Rattle.law_rules.specs.Seek.{seek_in};
 ghost use Rattle.law_rules.specs.WordSeek.{word, word_seek};
 
-use rules::Found;
 
 // The first wholly free block of the order `want` in the block `index` of the order `order` of a word, sought in its left half, then in its right half; 64 where there is none.
 fn seek_word(w: u64, order: usize, want: usize, index: usize) -> usize
@@ -48,14 +47,14 @@ fn first_block(w: u64, want: usize) -> usize
 }
 
 // The first wholly free block of the order `want` in a row.
-pub fn seek_row(words: &[u64], want: usize, row: usize) -> Found
+pub fn seek_row(words: &[u64], want: usize, row: usize) -> Option<usize>
     requires { (want < 6) × Block words.now 6 row }
     ensures { result ≡ seek_in words.now 6 want row 0 }
 {
     let i = first_block(words[row], want);
     let b = row * word_sizes::size(6 - want);
     if i < 64 {
-        return Found::At(b + i);
+        return Some(b + i);
     }
-    Found::Nothing
+    None
 }

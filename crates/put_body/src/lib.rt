@@ -8,7 +8,7 @@ ghost use Rattle.rules_calls.specs.Calls.{fresh, put_to, told, on_given};
 ghost use Rattle.test_fits.specs.Fits.{Fits};
 ghost use Rattle.rules.specs.Lower.{lower_put};
 
-use rules::{Given, Header, Request};
+use rules::{Header, Request};
 use rules_calls::{Outcome, Refusal};
 
 // The frames of a put go to the given local if it holds their tree, else to the tree's entry.
@@ -19,7 +19,7 @@ pub fn put_to(
     locals: &mut [u64],
     q: Request,
     frame: usize,
-    local: Given,
+    local: Option<usize>,
 )
     requires { Fits h q × (index_of local < 2 ^ 32) }
     ensures { (b : List ℕ) → fresh trees.new locals.new b
@@ -28,10 +28,10 @@ pub fn put_to(
     let t = frame / 2048;
     let n = word_sizes::size(q.order);
     match local {
-        Given::Nothing => {
+        None => {
             tree_words::put(h, table, trees, t, n);
         }
-        Given::Local(i) => {
+        Some(i) => {
             let j = word_header::slot(h, q.class, i);
             if local_frames::put(locals, j, t, n) {
                 return;

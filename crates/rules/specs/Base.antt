@@ -1,7 +1,5 @@
 -- What the rules are written with: branches, tests, sums, the first that passes, an answer with its words. Assumes nothing.
-use Rattle.std.specs.Prelude.{Bool, true, false, List, [], ◌∷◌, ℕ, zero, suc, ◌+◌}
-use Rattle.rules.specs.declared.Found.{Found}
-use Rattle.rules.specs.declared.Found.TheVariants.{At, Nothing}
+use Rattle.std.specs.Prelude.{Bool, true, false, List, [], ◌∷◌, ℕ, zero, suc, ◌+◌, Option, Some, None}
 
 -- one of two values
 abbrev pub pick : {A : Type 0} → Bool → A → A → A
@@ -44,14 +42,14 @@ listed f a zero = []
 listed f a (suc n) = f a ∷ listed f (suc a) n
 
 -- the first answer, or else the second
-abbrev pub or_found : Found → Found → Found
-or_found (At i) y = At i
-or_found Nothing y = y
+abbrev pub or_found : Option ℕ → Option ℕ → Option ℕ
+or_found (Some i) y = Some i
+or_found None y = y
 
 -- the first of the n numbers from a that passes the test t
-unfoldable pub first_in : (ℕ → Bool) → ℕ → ℕ → Found
-first_in t a zero = Nothing
-first_in t a (suc n) = or_found (first_in t a n) (pick (t (a + n)) (At (a + n)) Nothing)
+unfoldable pub first_in : (ℕ → Bool) → ℕ → ℕ → Option ℕ
+first_in t a zero = None
+first_in t a (suc n) = or_found (first_in t a n) (pick (t (a + n)) (Some (a + n)) None)
 
 -- an answer, and the words as it leaves them
 pub data Out (A W : Type 0) : Type 0 where

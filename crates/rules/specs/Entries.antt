@@ -1,14 +1,12 @@
 -- 01, Single words (trees.rs): what a put, a steal, a reservation, its return and a sync do to an entry. Assumes nothing.
-use Rattle.std.specs.Prelude.{true, false, List, ℕ, ◌+◌, ◌-◌, eqb, ltb, set}
+use Rattle.std.specs.Prelude.{true, false, List, ℕ, ◌+◌, ◌-◌, eqb, ltb, set, Option, Some, None}
 use Rattle.rules.specs.Base.{pick, Out, out}
 use Rattle.rules.specs.Words.{Config, tree_frames, tree_word, entry, entry_at}
 use Rattle.rules.specs.Policy.{policy}
 use Rattle.rules.specs.declared.Tree.{Tree}
 use Rattle.rules.specs.declared.Kind.{Kind}
 use Rattle.rules.specs.declared.Kind.TheVariants.{Invalid, Steal, Demote, Match}
-use Rattle.rules.specs.declared.Took.{Took}
 use Rattle.rules.specs.declared.Taken.{Taken}
-use Rattle.rules.specs.declared.Synced.{Synced}
 
 -- the default class where the tree is now full, else the class it had
 unfoldable pub if_full : ℕ → ℕ → ℕ → ℕ → ℕ
@@ -28,41 +26,41 @@ put_of c t n =
     (class_after c.tree_order c.default t.class (t.free + n) (policy c t.class c.default (t.free + n)))
 
 -- Match and Demote set the requested class k, Steal keeps the entry's, Invalid refuses
-unfoldable pub steal_kind : Tree → ℕ → ℕ → Kind → Took
-steal_kind t k n Invalid = Took.No
-steal_kind t k n Steal = Took.Yes (entry (t.free - n) false t.class)
-steal_kind t k n Demote = Took.Yes (entry (t.free - n) false k)
-steal_kind t k n (Match r) = Took.Yes (entry (t.free - n) false k)
+unfoldable pub steal_kind : Tree → ℕ → ℕ → Kind → Option Tree
+steal_kind t k n Invalid = None
+steal_kind t k n Steal = Some (entry (t.free - n) false t.class)
+steal_kind t k n Demote = Some (entry (t.free - n) false k)
+steal_kind t k n (Match r) = Some (entry (t.free - n) false k)
 
 -- steal: needs enough free and no reservation; the policy is asked with the request's frames
-unfoldable pub steal_of : Config → Tree → ℕ → ℕ → Took
-steal_of c t k n = pick t.reserved Took.No (pick (ltb t.free n) Took.No (steal_kind t k n (policy c k t.class n)))
+unfoldable pub steal_of : Config → Tree → ℕ → ℕ → Option Tree
+steal_of c t k n = pick t.reserved None (pick (ltb t.free n) None (steal_kind t k n (policy c k t.class n)))
 
 -- Match or Demote leaves (0, reserved, requested class) and yields the old free; Steal subtracts and keeps the class
-unfoldable pub reserve_kind : Tree → ℕ → ℕ → Kind → Taken
-reserve_kind t k n Invalid = Taken.No
+unfoldable pub reserve_kind : Tree → ℕ → ℕ → Kind → Option Taken
+reserve_kind t k n Invalid = None
 reserve_kind t k n Steal = Taken.Part (entry (t.free - n) false t.class)
 reserve_kind t k n Demote = Taken.Whole (entry 0 true k) t.free
 reserve_kind t k n (Match r) = Taken.Whole (entry 0 true k) t.free
 
 -- reserve or steal: same test
-unfoldable pub reserve_of : Config → Tree → ℕ → ℕ → Taken
-reserve_of c t k n = pick t.reserved Taken.No (pick (ltb t.free n) Taken.No (reserve_kind t k n (policy c k t.class n)))
+unfoldable pub reserve_of : Config → Tree → ℕ → ℕ → Option Taken
+reserve_of c t k n = pick t.reserved None (pick (ltb t.free n) None (reserve_kind t k n (policy c k t.class n)))
 
 -- Match keeps the entry's class, Demote sets the holder's k; then entry put. The others are not good
-unfoldable pub unreserve_kind : Config → Tree → ℕ → ℕ → Kind → Took
-unreserve_kind c t k n Invalid = Took.No
-unreserve_kind c t k n Steal = Took.No
-unreserve_kind c t k n Demote = Took.Yes (put_of c (entry t.free false k) n)
-unreserve_kind c t k n (Match r) = Took.Yes (put_of c (entry t.free false t.class) n)
+unfoldable pub unreserve_kind : Config → Tree → ℕ → ℕ → Kind → Option Tree
+unreserve_kind c t k n Invalid = None
+unreserve_kind c t k n Steal = None
+unreserve_kind c t k n Demote = Some (put_of c (entry t.free false k) n)
+unreserve_kind c t k n (Match r) = Some (put_of c (entry t.free false t.class) n)
 
 -- unreserve: the holder's class k returns its n frames to a reserved entry
-unfoldable pub unreserve_of : Config → Tree → ℕ → ℕ → Took
-unreserve_of c t k n = pick t.reserved (unreserve_kind c t k n (policy c k t.class n)) Took.No
+unfoldable pub unreserve_of : Config → Tree → ℕ → ℕ → Option Tree
+unreserve_of c t k n = pick t.reserved (unreserve_kind c t k n (policy c k t.class n)) None
 
 -- sync: only a reserved entry with free strictly above the shortfall m; takes all of it
-unfoldable pub sync_of : Tree → ℕ → Took
-sync_of t m = pick t.reserved (pick (ltb m t.free) (Took.Yes (entry 0 true t.class)) Took.No) Took.No
+unfoldable pub sync_of : Tree → ℕ → Option Tree
+sync_of t m = pick t.reserved (pick (ltb m t.free) (Some (entry 0 true t.class)) None) None
 
 -- ---- the same on the lent tree words, at tree t
 
@@ -71,33 +69,33 @@ unfoldable pub entry_put : Config → List ℕ → ℕ → ℕ → List ℕ
 entry_put c ts t n = set ts t (tree_word (put_of c (entry_at ts t) n))
 
 -- a new entry is stored; a refusal leaves the words
-unfoldable pub keep_took : List ℕ → ℕ → Took → Out Took (List ℕ)
-keep_took ts t (Took.Yes e) = out (Took.Yes e) (set ts t (tree_word e))
-keep_took ts t Took.No = out Took.No ts
+unfoldable pub keep_took : List ℕ → ℕ → Option Tree → Out (Option Tree) (List ℕ)
+keep_took ts t (Some e) = out (Some e) (set ts t (tree_word e))
+keep_took ts t None = out None ts
 
 -- steal from tree t
-unfoldable pub entry_steal : Config → List ℕ → ℕ → ℕ → ℕ → Out Took (List ℕ)
+unfoldable pub entry_steal : Config → List ℕ → ℕ → ℕ → ℕ → Out (Option Tree) (List ℕ)
 entry_steal c ts t k n = keep_took ts t (steal_of c (entry_at ts t) k n)
 
 -- unreserve tree t
-unfoldable pub entry_unreserve : Config → List ℕ → ℕ → ℕ → ℕ → Out Took (List ℕ)
+unfoldable pub entry_unreserve : Config → List ℕ → ℕ → ℕ → ℕ → Out (Option Tree) (List ℕ)
 entry_unreserve c ts t k n = keep_took ts t (unreserve_of c (entry_at ts t) k n)
 
 -- the same of a reserve or steal
-unfoldable pub keep_taken : List ℕ → ℕ → Taken → Out Taken (List ℕ)
-keep_taken ts t (Taken.Part e) = out (Taken.Part e) (set ts t (tree_word e))
-keep_taken ts t (Taken.Whole e n) = out (Taken.Whole e n) (set ts t (tree_word e))
-keep_taken ts t Taken.No = out Taken.No ts
+unfoldable pub keep_taken : List ℕ → ℕ → Option Taken → Out (Option Taken) (List ℕ)
+keep_taken ts t (Some (Taken.Part e)) = out (Some (Taken.Part e)) (set ts t (tree_word e))
+keep_taken ts t (Some (Taken.Whole e n)) = out (Some (Taken.Whole e n)) (set ts t (tree_word e))
+keep_taken ts t None = out None ts
 
 -- reserve or steal tree t
-unfoldable pub entry_reserve : Config → List ℕ → ℕ → ℕ → ℕ → Out Taken (List ℕ)
+unfoldable pub entry_reserve : Config → List ℕ → ℕ → ℕ → ℕ → Out (Option Taken) (List ℕ)
 entry_reserve c ts t k n = keep_taken ts t (reserve_of c (entry_at ts t) k n)
 
 -- the same of a sync: the answer is the free that the entry had
-unfoldable pub keep_sync : List ℕ → ℕ → Tree → Took → Out Synced (List ℕ)
-keep_sync ts t old (Took.Yes e) = out (Synced.Free old.free) (set ts t (tree_word e))
-keep_sync ts t old Took.No = out Synced.Nothing ts
+unfoldable pub keep_sync : List ℕ → ℕ → Tree → Option Tree → Out (Option ℕ) (List ℕ)
+keep_sync ts t old (Some e) = out (Some old.free) (set ts t (tree_word e))
+keep_sync ts t old None = out None ts
 
 -- sync with tree t
-unfoldable pub entry_sync : List ℕ → ℕ → ℕ → Out Synced (List ℕ)
+unfoldable pub entry_sync : List ℕ → ℕ → ℕ → Out (Option ℕ) (List ℕ)
 entry_sync ts t m = keep_sync ts t (entry_at ts t) (sync_of (entry_at ts t) m)

@@ -1,5 +1,5 @@
 -- Worked cases of the single words, the table and the lower, with document 01's figures, by computing the definitions. Assumes nothing.
-use Rattle.std.specs.Prelude.{◌≡◌, refl, List, [], ◌∷◌, ◌++◌, ℕ, ◌+◌, ◌*◌, replicate}
+use Rattle.std.specs.Prelude.{◌≡◌, refl, List, [], ◌∷◌, ◌++◌, ℕ, ◌+◌, ◌*◌, replicate, Option, Some, None}
 use Rattle.rules.specs.Base.{Out, out, bit_of, ifte, all_below, sum, first_in}
 use Rattle.rules.specs.Words.{Config, tree_count, configured, locals_of, slot, local_count, tree_of, tree_word, local_of, local_word}
 use Rattle.rules.specs.Policy.{pair_of, kind_of, cut_of, low_of, high_of, policy_of, policy, kind_at, good, pair_formed, pair_accepted, table_formed, rules_at, table_rules, frames_accepted, places_accepted, default_accepted, accepted}
@@ -8,13 +8,10 @@ use Rattle.rules.specs.Locals.{reservation, in_tree, local_take, has_enough, cyc
 use Rattle.rules.specs.Lower.{held, held_in, clear_bits, clear, mark, search_in, has_tree, lower_find, lower_take, lower_get, lower_put}
 use Rattle.rules.specs.declared.Kind.{Kind}
 use Rattle.rules.specs.declared.Kind.TheVariants.{Invalid, Steal, Demote, Match}
-use Rattle.rules.specs.declared.Took.{Took}
 use Rattle.rules.specs.declared.Taken.{Taken}
 use Rattle.rules.specs.declared.Held.{Held}
-use Rattle.rules.specs.declared.Found.{Found}
-use Rattle.rules.specs.declared.Found.TheVariants.{At, Nothing}
 use Rattle.rules.specs.declared.Payer.{Payer}
-use Rattle.rules.specs.declared.Name.TheVariants.{Any, Frame}
+use Rattle.rules.specs.declared.Tree.{Tree}
 
 -- table T: (0,0), (1,1) Match, cut 0, low 0, high 255; (0,1) Demote; (1,0) Steal; classes 0 and 1 with two locals each, default d
 abbrev pub table_t : ℕ → Config
@@ -28,15 +25,15 @@ table_t d =
     }
 
 -- answers as numbers: the new word, 1 for a refusal (no word of these cases is 1)
-abbrev pub took : Took → ℕ
-took Took.No = 1
-took (Took.Yes e) = tree_word e
+abbrev pub took : Option Tree → ℕ
+took None = 1
+took (Some e) = tree_word e
 
 -- a reservation's old free stands at 2^32
-abbrev pub taken : Taken → ℕ
-taken Taken.No = 1
-taken (Taken.Part e) = tree_word e
-taken (Taken.Whole e n) = tree_word e + 0x100000000 * n
+abbrev pub taken : Option Taken → ℕ
+taken None = 1
+taken (Some (Taken.Part e)) = tree_word e
+taken (Some (Taken.Whole e n)) = tree_word e + 0x100000000 * n
 
 -- a rating stands at 10; Invalid 0, Steal 1, Demote 2
 abbrev pub kind : Kind → ℕ
@@ -46,9 +43,9 @@ kind Demote = 2
 kind (Match r) = 10 + r
 
 -- a frame found; 9999 for none
-abbrev pub found : Out Found (List ℕ) → ℕ
-found (out (At f) ws) = f
-found (out Nothing ws) = 9999
+abbrev pub found : Out (Option ℕ) (List ℕ) → ℕ
+found (out (Some f) ws) = f
+found (out None ws) = 9999
 
 -- paid 1, too few or another tree 2, absent 3
 abbrev pub paid : Out Held (List ℕ) → ℕ
@@ -57,9 +54,9 @@ paid (out (Held.Few row free) ls) = 2
 paid (out Held.Absent ls) = 3
 
 -- the payer's class and slot: 100 + 10 × class + slot; 0 for nobody
-abbrev pub payer : Payer → ℕ
-payer Payer.Nobody = 0
-payer (Payer.Local k j) = 100 + 10 * k + j
+abbrev pub payer : Option Payer → ℕ
+payer None = 0
+payer (Some p) = 100 + 10 * p.class + p.slot
 
 -- the word of an entry with word w after a put of n frames
 abbrev pub entry_word : ℕ → ℕ → ℕ
@@ -86,26 +83,26 @@ computed =
     took (sync_of (tree_of 0x10000001) 1) ∷ took (sync_of (tree_of 0x10000002) 1) ∷ took (sync_of (tree_of 0x00000002) 1) ∷
     -- the local of E1; paid, too few, another tree than the named one, absent
     local_word (reservation 224 2047) ∷
-    paid (local_take 11 (0x80001000000000E0 ∷ []) 0 Any 1) ∷ paid (local_take 11 (0x80001000000000E0 ∷ []) 0 Any 2) ∷
-    paid (local_take 11 (0x80001000000000E0 ∷ []) 0 (Frame 0) 1) ∷ paid (local_take 11 (0 ∷ []) 0 Any 1) ∷
+    paid (local_take 11 (0x80001000000000E0 ∷ []) 0 None 1) ∷ paid (local_take 11 (0x80001000000000E0 ∷ []) 0 None 2) ∷
+    paid (local_take 11 (0x80001000000000E0 ∷ []) 0 (Some 0) 1) ∷ paid (local_take 11 (0 ∷ []) 0 None 1) ∷
     -- policy: high where free is at least the cut, else low
     kind (policy_of 0x0201002B 10) ∷ kind (policy_of 0x0201002B 9) ∷
     -- acceptance: T; T with default 0 (E12)
     bit_of (accepted (table_t 1)) ∷ bit_of (accepted (table_t 0)) ∷
     -- the lower: upward from the block holding the row's first frame, rounded down; then from the tree's first
-    found (lower_get 11 (replicate 32 0) 10 7 Any) ∷ found (lower_get 11 (replicate 32 0) 11 7 Any) ∷
-    found (lower_get 11 (replicate 8 0 ++ replicate 8 full64 ++ replicate 16 0) 9 0 Any) ∷
-    found (lower_get 11 (0xFFFFFFFFFFFFFFF7 ∷ replicate 31 full64) 9 0 Any) ∷
+    found (lower_get 11 (replicate 32 0) 10 7 None) ∷ found (lower_get 11 (replicate 32 0) 11 7 None) ∷
+    found (lower_get 11 (replicate 8 0 ++ replicate 8 full64 ++ replicate 16 0) 9 0 None) ∷
+    found (lower_get 11 (0xFFFFFFFFFFFFFFF7 ∷ replicate 31 full64) 9 0 None) ∷
     -- named: if it is wholly free
-    found (lower_get 11 (4 ∷ replicate 31 0) 0 2 (Frame 4)) ∷ found (lower_get 11 (4 ∷ replicate 31 0) 0 2 (Frame 0)) ∷
+    found (lower_get 11 (4 ∷ replicate 31 0) 0 2 (Some 4)) ∷ found (lower_get 11 (4 ∷ replicate 31 0) 0 2 (Some 0)) ∷
     -- clear bits of a tree
     clear 11 (replicate 32 0 ++ 7 ∷ replicate 31 0) 1 ∷
     -- which local pays: class 1's own from the given index cyclically, then class 0's by Steal; demote: the other classes alone
-    payer (steal_any (table_t 1) (0x80001000000000E0 ∷ 0 ∷ 0x8000100000000020 ∷ 0x8000200000000040 ∷ []) 1 1 Any 1) ∷
-    payer (steal_any (table_t 1) (0x80001000000000E0 ∷ 0 ∷ 0x8000100000000020 ∷ 0x8000200000000040 ∷ []) 1 1 Any 3) ∷
-    payer (steal_any (table_t 1) (0x80005000000000E0 ∷ 0 ∷ 0x8000100000000020 ∷ 0x8000200000000040 ∷ []) 1 0 Any 3) ∷
-    payer (demote_any (table_t 1) (0x80005000000000E0 ∷ 0 ∷ 0x8000500000000020 ∷ 0x8000200000000040 ∷ []) 0 0 Any 3) ∷
-    payer (demote_any (table_t 1) (0x80005000000000E0 ∷ 0 ∷ 0x8000500000000020 ∷ 0x8000200000000040 ∷ []) 1 0 Any 3) ∷ []
+    payer (steal_any (table_t 1) (0x80001000000000E0 ∷ 0 ∷ 0x8000100000000020 ∷ 0x8000200000000040 ∷ []) 1 1 None 1) ∷
+    payer (steal_any (table_t 1) (0x80001000000000E0 ∷ 0 ∷ 0x8000100000000020 ∷ 0x8000200000000040 ∷ []) 1 1 None 3) ∷
+    payer (steal_any (table_t 1) (0x80005000000000E0 ∷ 0 ∷ 0x8000100000000020 ∷ 0x8000200000000040 ∷ []) 1 0 None 3) ∷
+    payer (demote_any (table_t 1) (0x80005000000000E0 ∷ 0 ∷ 0x8000500000000020 ∷ 0x8000200000000040 ∷ []) 0 0 None 3) ∷
+    payer (demote_any (table_t 1) (0x80005000000000E0 ∷ 0 ∷ 0x8000500000000020 ∷ 0x8000200000000040 ∷ []) 1 0 None 3) ∷ []
 
 -- what they have to give
 abbrev pub wanted : List ℕ

@@ -1,11 +1,7 @@
 -- 01, Lower stand-in: the bitmap, blocks, what a get finds and takes, what a put gives back. Assumes nothing.
-use Rattle.std.specs.Prelude.{Bool, true, false, List, ℕ, zero, suc, ◌+◌, ◌-◌, ◌*◌, ◌/◌, ◌%◌, ◌^◌, eqb, leb, ltb, get_or, set, length}
+use Rattle.std.specs.Prelude.{Bool, true, false, List, ℕ, zero, suc, ◌+◌, ◌-◌, ◌*◌, ◌/◌, ◌%◌, ◌^◌, eqb, leb, ltb, get_or, set, length, Option, Some, None}
 use Rattle.rules.specs.Base.{pick, both, sum, or_found, first_in, Out, out}
 use Rattle.rules.specs.Words.{tree_frames, tree_rows}
-use Rattle.rules.specs.declared.Found.{Found}
-use Rattle.rules.specs.declared.Found.TheVariants.{At, Nothing}
-use Rattle.rules.specs.declared.Name.{Name}
-use Rattle.rules.specs.declared.Name.TheVariants.{Any, Frame}
 
 -- bit i of a word
 abbrev pub bit_at : ℕ → ℕ → ℕ
@@ -62,7 +58,7 @@ abbrev pub hit : List ℕ → ℕ → ℕ → ℕ → Bool
 hit ws o from j = both (leb from j) (eqb (held_in ws o j) 0)
 
 -- no name: the first wholly free aligned block of the tree, upward from the one holding the row's first frame, then from the tree's first
-unfoldable pub search_in : ℕ → List ℕ → ℕ → ℕ → ℕ → Found
+unfoldable pub search_in : ℕ → List ℕ → ℕ → ℕ → ℕ → Option ℕ
 search_in z ws tree o row =
     or_found
     (first_in (hit ws o (row * 64 / 2 ^ o)) (tree * 2 ^ (z - o)) (2 ^ (z - o)))
@@ -73,17 +69,17 @@ unfoldable pub has_tree : ℕ → List ℕ → ℕ → Bool
 has_tree z ws t = both (leb (length ws) (1024 * tree_rows z)) (ltb t (length ws / tree_rows z))
 
 -- the block that a get would take. Named: if it is wholly free. No name: sought in the hint row's tree
-unfoldable pub lower_find : ℕ → List ℕ → ℕ → ℕ → Name → Found
-lower_find z ws row o (Frame f) = pick (has_tree z ws (f / tree_frames z)) (pick (eqb (held_in ws o (f / 2 ^ o)) 0) (At (f / 2 ^ o)) Nothing) Nothing
-lower_find z ws row o Any = pick (has_tree z ws (row / tree_rows z)) (search_in z ws (row / tree_rows z) o row) Nothing
+unfoldable pub lower_find : ℕ → List ℕ → ℕ → ℕ → Option ℕ → Option ℕ
+lower_find z ws row o (Some f) = pick (has_tree z ws (f / tree_frames z)) (pick (eqb (held_in ws o (f / 2 ^ o)) 0) (Some (f / 2 ^ o)) None) None
+lower_find z ws row o None = pick (has_tree z ws (row / tree_rows z)) (search_in z ws (row / tree_rows z) o row) None
 
 -- a found block is held from now on; its first frame is the answer
-unfoldable pub lower_take : List ℕ → ℕ → Found → Out Found (List ℕ)
-lower_take ws o (At j) = out (At (j * 2 ^ o)) (mark true ws o j)
-lower_take ws o Nothing = out Nothing ws
+unfoldable pub lower_take : List ℕ → ℕ → Option ℕ → Out (Option ℕ) (List ℕ)
+lower_take ws o (Some j) = out (Some (j * 2 ^ o)) (mark true ws o j)
+lower_take ws o None = out None ws
 
 -- the lower's get
-unfoldable pub lower_get : ℕ → List ℕ → ℕ → ℕ → Name → Out Found (List ℕ)
+unfoldable pub lower_get : ℕ → List ℕ → ℕ → ℕ → Option ℕ → Out (Option ℕ) (List ℕ)
 lower_get z ws row o name = lower_take ws o (lower_find z ws row o name)
 
 -- a put needs every frame of the block held and clears their bits

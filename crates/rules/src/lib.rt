@@ -35,55 +35,19 @@ pub struct Header {
     pub places: [u8; 8],
 }
 
-// A number, if there is one: of a block, a frame, a local.
-#[derive(Clone, Copy)]
-pub enum Found {
-    At(usize),
-    Nothing,
-}
-
-// The frame that a get names, or none.
-#[derive(Clone, Copy)]
-pub enum Name {
-    Any,
-    Frame(usize),
-}
-
-// The local that a call gives, by its index in the class, or none.
-#[derive(Clone, Copy)]
-pub enum Given {
-    Local(usize),
-    Nothing,
-}
-
-// What a get or a put asks for, beside its frame.
+// What a get or a put asks for, beside its frame; the local that it gives, by its index in the class.
 #[derive(Clone, Copy)]
 pub struct Request {
     pub order: usize,
     pub class: usize,
-    pub local: Given,
+    pub local: Option<usize>,
 }
 
-// What an operation on an entry answers: refused, or the new entry.
-#[derive(Clone, Copy)]
-pub enum Took {
-    No,
-    Yes(Tree),
-}
-
-// What a reserve or steal answers: refused, stolen in part, or reserved whole, with the frames that the entry had.
+// What a reserve or steal that is not refused answers: stolen in part, or reserved whole, with the frames that the entry had.
 #[derive(Clone, Copy)]
 pub enum Taken {
-    No,
     Part(Tree),
     Whole(Tree, u32),
-}
-
-// What a sync answers: the frames of the entry, or nothing.
-#[derive(Clone, Copy)]
-pub enum Synced {
-    Free(u32),
-    Nothing,
 }
 
 // What a local answers to a request: paid, at its row; too few, or another tree; absent.
@@ -96,7 +60,7 @@ pub enum Held {
 
 // The local that pays, by its class and its slot in the lent words.
 #[derive(Clone, Copy)]
-pub enum Payer {
-    Nobody,
-    Local { class: usize, slot: usize },
+pub struct Payer {
+    pub class: usize,
+    pub slot: usize,
 }

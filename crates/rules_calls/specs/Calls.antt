@@ -1,13 +1,10 @@
 -- 01, Numbered outcomes, and the exported calls start, get, put, drain. Assumes nothing.
-use Rattle.std.specs.Prelude.{Bool, true, false, List, ℕ, zero, suc, ◌+◌, ◌-◌, ◌*◌, ◌/◌, ◌%◌, ◌^◌, eqb, leb, ltb}
+use Rattle.std.specs.Prelude.{Bool, true, false, List, ℕ, zero, suc, ◌+◌, ◌-◌, ◌*◌, ◌/◌, ◌%◌, ◌^◌, eqb, leb, ltb, Option, Some, None}
 use Rattle.rules.specs.Base.{pick, both, ifte, listed, Out, out}
 use Rattle.rules.specs.Words.{Config, tree_frames, tree_rows, trees_of, configured, locals_of, slot, local_count, tree_word, entry}
 use Rattle.rules.specs.Policy.{accepted}
 use Rattle.rules.specs.Locals.{local_put, local_clear}
 use Rattle.rules.specs.Lower.{lower_put}
-use Rattle.rules.specs.declared.Name.{Name}
-use Rattle.rules.specs.declared.Name.TheVariants.{Any, Frame}
-use Rattle.rules.specs.declared.Given.{Given}
 use Rattle.rules.specs.declared.Request.{Request}
 use Rattle.rules_calls.specs.declared.Got.{Got}
 use Rattle.rules_calls.specs.declared.Refusal.{Refusal}
@@ -75,9 +72,9 @@ told r t l b = telling (outcome_of r) 0 0 (fresh t l b)
 -- ---- refusals 2 to 6, tried in that order; 0 if none is given
 
 -- a local given, not below its class's number
-unfoldable pub refuse_local : Config → ℕ → Given → ℕ
-refuse_local c k (Given.Local i) = pick (ltb i (locals_of c.places k)) 0 6
-refuse_local c k Given.Nothing = 0
+unfoldable pub refuse_local : Config → ℕ → Option ℕ → ℕ
+refuse_local c k (Some i) = pick (ltb i (locals_of c.places k)) 0 6
+refuse_local c k None = 0
 
 -- class above 7 or unconfigured
 unfoldable pub refuse_class : Config → Request → ℕ
@@ -109,12 +106,12 @@ close (out (Got.MissedAt t) s) = telling 7 0 0 s
 close (out Got.Stuck s) = telling 9 0 0 s
 
 -- no named frame: 0
-unfoldable pub frame_of : Name → ℕ
-frame_of Any = 0
-frame_of (Frame f) = f
+unfoldable pub frame_of : Option ℕ → ℕ
+frame_of None = 0
+frame_of (Some f) = f
 
 -- get: Broken, refusals 2 to 6, then the routes
-unfoldable pub get : Config → Request → Name → List ℕ → List ℕ → List ℕ → Told
+unfoldable pub get : Config → Request → Option ℕ → List ℕ → List ℕ → List ℕ → Told
 get c q name t l b =
     if_standing c (fresh t l b)
     (λ s. unless (refusal c q (frame_of name)) s
@@ -123,12 +120,12 @@ get c q name t l b =
 -- ---- put
 
 -- the given local if it holds that tree, else the entry
-unfoldable pub put_to : Config → Request → ℕ → Given → State → State
-put_to c q f (Given.Local i) s =
+unfoldable pub put_to : Config → Request → ℕ → Option ℕ → State → State
+put_to c q f (Some i) s =
     on_put (local_put c.tree_order s.locals (slot c.places q.class i) (f / tree_frames c.tree_order) (size q)) s
     (λ s1. s1)
     (put_entry c (f / tree_frames c.tree_order) (size q))
-put_to c q f Given.Nothing s = put_entry c (f / tree_frames c.tree_order) (size q) s
+put_to c q f None s = put_entry c (f / tree_frames c.tree_order) (size q) s
 
 -- lower first: a block with a free frame is NotHeld
 unfoldable pub on_given : Out Bool (List ℕ) → State → (State → State) → Told

@@ -2,16 +2,13 @@
 -- figures that the Rust gave, or that 01's text gives where the Rust has no answer. Their gets, and the start before them, are computed behind their
 -- tests, since the state test is nearly all of a call's work; two Broken states and the statistics are computed with it. Crate `rules_cases` has E1 to E12
 -- and the further cases but those of 80 trees with that test, and more. Assumes nothing.
-use Rattle.std.specs.Prelude.{◌≡◌, refl, true, false, List, [], ◌∷◌, ◌++◌, ℕ, zero, suc, ◌+◌, ◌*◌, get_or, set, replicate, take, drop, length}
+use Rattle.std.specs.Prelude.{◌≡◌, refl, true, false, List, [], ◌∷◌, ◌++◌, ℕ, zero, suc, ◌+◌, ◌*◌, get_or, set, replicate, take, drop, length, Option, Some, None}
 use Rattle.rules.specs.Base.{ifte, all_below, sum, listed, first_in}
 use Rattle.rules.specs.Words.{Config, tree_rows, trees_of, tree_count, configured, locals_of, slot, local_count, tree_of, tree_word, local_of, local_word}
 use Rattle.rules.specs.Policy.{pair_of, kind_of, cut_of, low_of, high_of, policy_of, policy, kind_at, good, pair_formed, pair_accepted, table_formed, rules_at, table_rules, frames_accepted, places_accepted, default_accepted, accepted}
 use Rattle.rules.specs.Entries.{if_full, class_after, put_of, steal_kind, steal_of, reserve_kind, reserve_of, unreserve_kind, unreserve_of, sync_of, entry_put, keep_took, entry_steal, entry_unreserve, keep_taken, entry_reserve, keep_sync, entry_sync}
 use Rattle.rules.specs.Locals.{in_tree, local_take, local_put, local_row, local_swap, local_clear, has_enough, cyclic, first_local, payer_or, may_pay, may_move, payer_in, steal_any, demote_any}
 use Rattle.rules.specs.Lower.{held, held_in, clear_bits, clear, mark, search_in, has_tree, lower_find, lower_take, lower_get, lower_put}
-use Rattle.rules.specs.declared.Name.{Name}
-use Rattle.rules.specs.declared.Name.TheVariants.{Any, Frame}
-use Rattle.rules.specs.declared.Given.{Given}
 use Rattle.rules.specs.declared.Request.{Request}
 use Rattle.rules_calls.specs.declared.Tally.{Tally}
 use Rattle.rules_calls.specs.Statistics
@@ -64,8 +61,8 @@ table_t5 f n =
 
 -- a get (order, class, local, frame), a put, a start (all free, all held), a drain; or words stored by hand: tree t's entry, the local j, the words of the tree; or all words
 pub data Call : Type 0 where
-  asks : ℕ → ℕ → Given → Name → Call
-  gives : ℕ → ℕ → Given → ℕ → Call
+  asks : ℕ → ℕ → Option ℕ → Option ℕ → Call
+  gives : ℕ → ℕ → Option ℕ → ℕ → Call
   starts starts_held drains : Call
   holds : ℕ → ℕ → ℕ → ℕ → List ℕ → Call
   stands : List ℕ → List ℕ → List ℕ → Call
@@ -92,7 +89,7 @@ paste ws i xs = take i ws ++ xs ++ drop (i + length xs) ws
 
 -- what a get of these arguments and words tells
 abbrev pub Gets : Type 0
-Gets = Config → Request → Name → List ℕ → List ℕ → List ℕ → Told
+Gets = Config → Request → Option ℕ → List ℕ → List ℕ → List ℕ → Told
 
 -- a get behind the test of the whole state: the refusals 2 to 6, then the routes
 abbrev pub untested : Gets
@@ -157,11 +154,11 @@ given (x ∷ xs) = x.wants ∷ given xs
 
 -- E1's request
 abbrev pub e1 : Call
-e1 = asks 0 0 (Given.Local 0) Any
+e1 = asks 0 0 (Some 0) None
 
 -- E8's four frames
 abbrev pub e8 : ℕ → Call
-e8 f = asks 0 1 Given.Nothing (Frame f)
+e8 f = asks 0 1 None (Some f)
 
 -- words of 64 held frames
 abbrev pub held_words : ℕ → List ℕ
@@ -175,13 +172,13 @@ examples =
     -- E2 the same after E1
     ∷ record { of = table_t 16384 2 1; calls = e1 ∷ e1 ∷ []; figures = number ∷ frame ∷ looks ∷ tries ∷ []; wants = 0 ∷ 14337 ∷ 0 ∷ 1 ∷ [] }
     -- E3 order 9, class 1, local 1: start 4 was rounded to 0
-    ∷ record { of = table_t 16384 2 1; calls = asks 9 1 (Given.Local 1) Any ∷ []; figures = number ∷ frame ∷ looks ∷ []; wants = 0 ∷ 0 ∷ 1 ∷ [] }
+    ∷ record { of = table_t 16384 2 1; calls = asks 9 1 (Some 1) None ∷ []; figures = number ∷ frame ∷ looks ∷ []; wants = 0 ∷ 0 ∷ 1 ∷ [] }
     -- E4 order 9, class 0, no local
-    ∷ record { of = table_t 16384 2 1; calls = asks 9 0 Given.Nothing Any ∷ []; figures = number ∷ frame ∷ looks ∷ tree 0 ∷ []; wants = 0 ∷ 0 ∷ 8 ∷ 0x600 ∷ [] }
+    ∷ record { of = table_t 16384 2 1; calls = asks 9 0 None None ∷ []; figures = number ∷ frame ∷ looks ∷ tree 0 ∷ []; wants = 0 ∷ 0 ∷ 8 ∷ 0x600 ∷ [] }
     -- E5 after E4, order 0, class 1, no local
-    ∷ record { of = table_t 16384 2 1; calls = asks 9 0 Given.Nothing Any ∷ asks 0 1 Given.Nothing Any ∷ []; figures = number ∷ frame ∷ class ∷ looks ∷ []; wants = 0 ∷ 14336 ∷ 1 ∷ 2 ∷ [] }
+    ∷ record { of = table_t 16384 2 1; calls = asks 9 0 None None ∷ asks 0 1 None None ∷ []; figures = number ∷ frame ∷ class ∷ looks ∷ []; wants = 0 ∷ 14336 ∷ 1 ∷ 2 ∷ [] }
     -- E6 after E1, order 0, named frame 0, class 0, local 0: local unchanged
-    ∷ record { of = table_t 16384 2 1; calls = e1 ∷ asks 0 0 (Given.Local 0) (Frame 0) ∷ []; figures = number ∷ frame ∷ local 0 ∷ []; wants = 0 ∷ 0 ∷ 0x807FF000000000E0 ∷ [] }
+    ∷ record { of = table_t 16384 2 1; calls = e1 ∷ asks 0 0 (Some 0) (Some 0) ∷ []; figures = number ∷ frame ∷ local 0 ∷ []; wants = 0 ∷ 0 ∷ 0x807FF000000000E0 ∷ [] }
     -- E7 E1's request on the state after E1, but local free 0, entry 7's free 1, and of tree 7 only the last frame clear: no sync
     ∷ record { of = table_t 16384 2 1; calls = e1 ∷ holds 7 0x10000001 0 0x80000000000000E0 (held_words 31 ++ 0x7FFFFFFFFFFFFFFF ∷ []) ∷ e1 ∷ []; figures = number ∷ frame ∷ []; wants = 0 ∷ 2048 ∷ [] }
     -- E7 with 2, the last two clear: sync
@@ -189,15 +186,15 @@ examples =
     -- E8 named frames 0, 512, 1,024, 1,536 taken at order 0 by class 1, no local
     ∷ record { of = table_t 2048 1 1; calls = e8 0 ∷ e8 512 ∷ e8 1024 ∷ e8 1536 ∷ []; figures = number ∷ tree 0 ∷ []; wants = 0 ∷ 0x200007FC ∷ [] }
     -- E8 then order 9, class 0, no local: Memory
-    ∷ record { of = table_t 2048 1 1; calls = e8 0 ∷ e8 512 ∷ e8 1024 ∷ e8 1536 ∷ asks 9 0 Given.Nothing Any ∷ []; figures = number ∷ tree 0 ∷ []; wants = 7 ∷ 0x7FC ∷ [] }
+    ∷ record { of = table_t 2048 1 1; calls = e8 0 ∷ e8 512 ∷ e8 1024 ∷ e8 1536 ∷ asks 9 0 None None ∷ []; figures = number ∷ tree 0 ∷ []; wants = 7 ∷ 0x7FC ∷ [] }
     -- E9 order 12: Order. Order 11 at F = 2,048: Done
-    ∷ record { of = table_t 2048 1 1; calls = asks 12 0 Given.Nothing Any ∷ []; figures = number ∷ []; wants = 2 ∷ [] }
-    ∷ record { of = table_t 2048 1 1; calls = asks 11 0 Given.Nothing Any ∷ []; figures = number ∷ []; wants = 0 ∷ [] }
+    ∷ record { of = table_t 2048 1 1; calls = asks 12 0 None None ∷ []; figures = number ∷ []; wants = 2 ∷ [] }
+    ∷ record { of = table_t 2048 1 1; calls = asks 11 0 None None ∷ []; figures = number ∷ []; wants = 0 ∷ [] }
     -- E10 frame 2,049 order 1 is Bounds; frame 1 order 1 is Misaligned
-    ∷ record { of = table_t 2049 1 1; calls = asks 1 0 Given.Nothing (Frame 2049) ∷ []; figures = number ∷ []; wants = 3 ∷ [] }
-    ∷ record { of = table_t 2049 1 1; calls = asks 1 0 Given.Nothing (Frame 1) ∷ []; figures = number ∷ []; wants = 4 ∷ [] }
+    ∷ record { of = table_t 2049 1 1; calls = asks 1 0 None (Some 2049) ∷ []; figures = number ∷ []; wants = 3 ∷ [] }
+    ∷ record { of = table_t 2049 1 1; calls = asks 1 0 None (Some 1) ∷ []; figures = number ∷ []; wants = 4 ∷ [] }
     -- E11 frame 2^64 − 1, order 0: Bounds
-    ∷ record { of = table_t 16384 2 1; calls = asks 0 0 Given.Nothing (Frame 0xFFFFFFFFFFFFFFFF) ∷ []; figures = number ∷ []; wants = 3 ∷ [] }
+    ∷ record { of = table_t 16384 2 1; calls = asks 0 0 None (Some 0xFFFFFFFFFFFFFFFF) ∷ []; figures = number ∷ []; wants = 3 ∷ [] }
     -- E12 T with default 0: Config
     ∷ record { of = table_t 16384 2 0; calls = starts ∷ []; figures = number ∷ []; wants = 10 ∷ [] }
     ∷ []
@@ -206,11 +203,11 @@ examples =
 
 -- an unnamed get without a local
 abbrev pub anyone : ℕ → ℕ → Call
-anyone o k = asks o k Given.Nothing Any
+anyone o k = asks o k None None
 
 -- an unnamed get with local 0
 abbrev pub local0 : ℕ → ℕ → Call
-local0 o k = asks o k (Given.Local 0) Any
+local0 o k = asks o k (Some 0) None
 
 -- all five figures of a get
 abbrev pub all5 : List Figure
@@ -230,13 +227,13 @@ further =
     -- a steal from a local answers that local's class, and keeps its row
     record { of = table_t 4096 1 1; calls = local0 0 0 ∷ anyone 11 1 ∷ anyone 6 1 ∷ []; figures = all5 ++ tree 1 ∷ local 0 ∷ []; wants = 0 ∷ 2112 ∷ 0 ∷ 2 ∷ 1 ∷ 0x10000000 ∷ 0x807bf00000000020 ∷ [] }
     -- a named frame in another tree: the own local is synced all the same, and keeps the frames
-    ∷ record { of = table_t 4096 1 1; calls = stands (0x20000800 ∷ 0x10000005 ∷ []) (0x8000000000000020 ∷ 0 ∷ []) (replicate 32 0 ++ held_words 31 ++ 0x07ffffffffffffff ∷ []) ∷ asks 0 0 (Given.Local 0) (Frame 0) ∷ []; figures = all5 ++ tree 1 ∷ local 0 ∷ []; wants = 0 ∷ 0 ∷ 0 ∷ 0 ∷ 1 ∷ 0x10000000 ∷ 0x8000500000000020 ∷ [] }
+    ∷ record { of = table_t 4096 1 1; calls = stands (0x20000800 ∷ 0x10000005 ∷ []) (0x8000000000000020 ∷ 0 ∷ []) (replicate 32 0 ++ held_words 31 ++ 0x07ffffffffffffff ∷ []) ∷ asks 0 0 (Some 0) (Some 0) ∷ []; figures = all5 ++ tree 1 ∷ local 0 ∷ []; wants = 0 ∷ 0 ∷ 0 ∷ 0 ∷ 1 ∷ 0x10000000 ∷ 0x8000500000000020 ∷ [] }
     -- locals not below n: the stealing search, and no reservation
     ∷ record { of = table_t 2048 1 1; calls = local0 0 1 ∷ []; figures = all5 ++ tree 0 ∷ local 1 ∷ []; wants = 0 ∷ 0 ∷ 1 ∷ 1 ∷ 1 ∷ 0x200007ff ∷ 0 ∷ [] }
     -- a present own reservation that failed gives its tree as the start: 8
     ∷ record { of = table_t 18432 1 1; calls = holds 8 0x10000000 0 0x8000000000000100 (held_words 32) ∷ local0 0 0 ∷ []; figures = all5; wants = 0 ∷ 14336 ∷ 0 ∷ 3 ∷ 1 ∷ [] }
     -- with none the start is (n / locals) times the local: 2
-    ∷ record { of = table_t 6144 3 1; calls = asks 0 1 (Given.Local 2) Any ∷ []; figures = all5 ++ tree 2 ∷ []; wants = 0 ∷ 4096 ∷ 1 ∷ 1 ∷ 1 ∷ 0x200007ff ∷ [] }
+    ∷ record { of = table_t 6144 3 1; calls = asks 0 1 (Some 2) None ∷ []; figures = all5 ++ tree 2 ∷ []; wants = 0 ∷ 4096 ∷ 1 ∷ 1 ∷ 1 ∷ 0x200007ff ∷ [] }
     -- a reserving search that steals answers the class that the entry has
     ∷ record { of = table_t 4096 1 1; calls = stands (0x800 ∷ 0x800 ∷ []) (0 ∷ 0 ∷ []) (replicate 64 0) ∷ local0 0 1 ∷ []; figures = all5 ++ tree 0 ∷ local 1 ∷ []; wants = 0 ∷ 0 ∷ 0 ∷ 5 ∷ 1 ∷ 0x7ff ∷ 0 ∷ [] }
     -- where a steal from a local and a demote could both pay, the steal does
@@ -256,9 +253,9 @@ nines =
 abbrev pub wide : List Example
 wide =
     -- the start 24 is rounded to 16, and the near walk looks at 15, 17, 14 and 18
-    record { of = table_t 163840 10 1; calls = asks 0 0 (Given.Local 3) Any ∷ []; figures = all5; wants = 0 ∷ 30720 ∷ 0 ∷ 4 ∷ 1 ∷ [] }
+    record { of = table_t 163840 10 1; calls = asks 0 0 (Some 3) None ∷ []; figures = all5; wants = 0 ∷ 30720 ∷ 0 ∷ 4 ∷ 1 ∷ [] }
     -- the near list holds three: 15, 17 and 14 are refused, 18, the fourth, is not tried, and the far walk begins at 16
-    ∷ record { of = table_t5 163840 5; calls = dots 14 ∷ dots 15 ∷ dots 17 ∷ asks 6 0 (Given.Local 1) Any ∷ []; figures = all5 ++ tree 18 ∷ []; wants = 0 ∷ 32768 ∷ 0 ∷ 5 ∷ 4 ∷ 0x20000800 ∷ [] }
+    ∷ record { of = table_t5 163840 5; calls = dots 14 ∷ dots 15 ∷ dots 17 ∷ asks 6 0 (Some 1) None ∷ []; figures = all5 ++ tree 18 ∷ []; wants = 0 ∷ 32768 ∷ 0 ∷ 5 ∷ 4 ∷ 0x20000800 ∷ [] }
     ∷ []
 
 -- states that are refused

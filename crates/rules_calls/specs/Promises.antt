@@ -1,10 +1,9 @@
 -- The promises of the exported calls: what each answers and what every lent word then is, for all arguments, tables and words.
 -- These very definitions stand in the `ensures` of the code, and in the theorems on sequences of calls. Assumes nothing.
-use Rattle.std.specs.Prelude.{◌≡◌, Bool, List, ℕ}
+use Rattle.std.specs.Prelude.{◌≡◌, Bool, List, ℕ, Option}
 use Rattle.rules.specs.Words.{config}
 use Rattle.rules.specs.declared.Header.{Header}
 use Rattle.rules.specs.declared.Request.{Request}
-use Rattle.rules.specs.declared.Name.{Name}
 use Rattle.rules_calls.specs.declared.Outcome.{Outcome}
 use Rattle.rules_calls.specs.declared.Reply.{Reply}
 use Rattle.rules_calls.specs.declared.Tally.{Tally}
@@ -27,7 +26,7 @@ abbrev pub StartPromise : Header → List ℕ → Bool → Words → Outcome →
 StartPromise h pairs all_free s r e = told r e.trees e.locals e.bits ≡ start (config h pairs) all_free s.trees s.locals s.bits
 
 -- of the frame that is named, if one is, and the request q
-abbrev pub GetPromise : Header → List ℕ → Name → Request → Words → Reply → Words → Type 0
+abbrev pub GetPromise : Header → List ℕ → Option ℕ → Request → Words → Reply → Words → Type 0
 GetPromise h pairs name q s r e = told_get r e.trees e.locals e.bits ≡ get (config h pairs) q name s.trees s.locals s.bits
 
 -- of the block at frame f

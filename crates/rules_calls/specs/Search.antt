@@ -1,10 +1,8 @@
 -- 01, Reserving search and Stealing search. Assumes nothing.
-use Rattle.std.specs.Prelude.{ℕ, ◌*◌, ◌/◌, ◌^◌, leb, ltb}
+use Rattle.std.specs.Prelude.{ℕ, ◌*◌, ◌/◌, ◌^◌, leb, ltb, Option, Some, None}
 use Rattle.rules.specs.Base.{pick, ifte, first_in}
 use Rattle.rules.specs.Words.{Config, huge_order, trees_of}
 use Rattle.rules.specs.declared.Request.{Request}
-use Rattle.rules.specs.declared.Found.{Found}
-use Rattle.rules.specs.declared.Found.TheVariants.{At, Nothing}
 use Rattle.rules_calls.specs.declared.Walk.{Walk}
 use Rattle.rules_calls.specs.State.{State, Way, or_else}
 use Rattle.rules_calls.specs.Walking.{search_best}
@@ -14,9 +12,9 @@ unfoldable pub near : ℕ → ℕ
 near n = pick (ltb (n / 16) 4) 4 (n / 16)
 
 -- rounded down to a multiple of 2^e
-unfoldable pub round_down : ℕ → Found → ℕ
-round_down start (At e) = start / 2 ^ e * 2 ^ e
-round_down start Nothing = 0
+unfoldable pub round_down : ℕ → Option ℕ → ℕ
+round_down start (Some e) = start / 2 ^ e * 2 ^ e
+round_down start None = 0
 
 -- start rounded down to a multiple of the least power of two not below 2 × near (at most 2^7, with n at most 1,024)
 unfoldable pub rounded_start : ℕ → ℕ → ℕ

@@ -1,5 +1,5 @@
 -- 01, The routes of get: the lent words with the counts, how a route ends, and the steps that routes are made of. Assumes nothing.
-use Rattle.std.specs.Prelude.{Bool, true, false, List, ℕ, ◌+◌, ◌/◌, ◌^◌}
+use Rattle.std.specs.Prelude.{Bool, true, false, List, ℕ, ◌+◌, ◌/◌, ◌^◌, Option, Some, None}
 use Rattle.rules.specs.Base.{ifte, Out, out}
 use Rattle.rules.specs.Words.{Config, tree_rows}
 use Rattle.rules.specs.Entries.{entry_put, entry_unreserve}
@@ -7,14 +7,9 @@ use Rattle.rules.specs.Locals.{local_row}
 use Rattle.rules.specs.Lower.{lower_get}
 use Rattle.rules.specs.declared.Tree.{Tree}
 use Rattle.rules.specs.declared.Local.{Local}
-use Rattle.rules.specs.declared.Name.{Name}
-use Rattle.rules.specs.declared.Given.{Given}
 use Rattle.rules.specs.declared.Request.{Request}
-use Rattle.rules.specs.declared.Took.{Took}
 use Rattle.rules.specs.declared.Taken.{Taken}
-use Rattle.rules.specs.declared.Synced.{Synced}
 use Rattle.rules.specs.declared.Held.{Held}
-use Rattle.rules.specs.declared.Found.{Found}
 use Rattle.rules_calls.specs.declared.Got.{Got}
 use Rattle.rules_calls.specs.declared.Routed.{Routed}
 
@@ -43,9 +38,9 @@ abbrev pub size : Request → ℕ
 size q = 2 ^ q.order
 
 -- the given index, 0 if none
-unfoldable pub index_of : Given → ℕ
-index_of (Given.Local i) = i
-index_of Given.Nothing = 0
+unfoldable pub index_of : Option ℕ → ℕ
+index_of (Some i) = i
+index_of None = 0
 
 -- ---- ends
 
@@ -95,20 +90,20 @@ unfoldable pub with_look : State → State
 with_look s = st s.trees s.locals s.bits (s.looks + 1) s.tries
 
 -- after a steal or an unreserve: the new entry, or refused
-unfoldable pub on_took : {A : Type 0} → Out Took (List ℕ) → State → (Tree → State → A) → (State → A) → A
-on_took (out (Took.Yes e) t) s hit miss = hit e (with_trees s t)
-on_took (out Took.No t) s hit miss = miss (with_trees s t)
+unfoldable pub on_took : {A : Type 0} → Out (Option Tree) (List ℕ) → State → (Tree → State → A) → (State → A) → A
+on_took (out (Some e) t) s hit miss = hit e (with_trees s t)
+on_took (out None t) s hit miss = miss (with_trees s t)
 
 -- after a reserve or steal: a part, the whole with its old free, or refused
-unfoldable pub on_taken : {A : Type 0} → Out Taken (List ℕ) → State → (Tree → State → A) → (ℕ → State → A) → (State → A) → A
-on_taken (out (Taken.Part e) t) s part whole miss = part e (with_trees s t)
-on_taken (out (Taken.Whole e n) t) s part whole miss = whole n (with_trees s t)
-on_taken (out Taken.No t) s part whole miss = miss (with_trees s t)
+unfoldable pub on_taken : {A : Type 0} → Out (Option Taken) (List ℕ) → State → (Tree → State → A) → (ℕ → State → A) → (State → A) → A
+on_taken (out (Some (Taken.Part e)) t) s part whole miss = part e (with_trees s t)
+on_taken (out (Some (Taken.Whole e n)) t) s part whole miss = whole n (with_trees s t)
+on_taken (out None t) s part whole miss = miss (with_trees s t)
 
 -- after a sync: the frames, or none
-unfoldable pub on_sync : {A : Type 0} → Out Synced (List ℕ) → State → (ℕ → State → A) → (State → A) → A
-on_sync (out (Synced.Free n) t) s hit miss = hit n (with_trees s t)
-on_sync (out Synced.Nothing t) s hit miss = miss (with_trees s t)
+unfoldable pub on_sync : {A : Type 0} → Out (Option ℕ) (List ℕ) → State → (ℕ → State → A) → (State → A) → A
+on_sync (out (Some n) t) s hit miss = hit n (with_trees s t)
+on_sync (out None t) s hit miss = miss (with_trees s t)
 
 -- after a local was asked: paid at its row, too few or another tree, absent
 unfoldable pub on_held : {A : Type 0} → Out Held (List ℕ) → State → (ℕ → State → A) → (ℕ → ℕ → State → A) → (State → A) → A
@@ -126,9 +121,9 @@ unfoldable pub on_swap : {A : Type 0} → Out Local (List ℕ) → State → (Lo
 on_swap (out old l) s next = next old (with_locals s l)
 
 -- after a lower call, which is a try: the frame found, or none
-unfoldable pub on_found : {A : Type 0} → Out Found (List ℕ) → State → (ℕ → State → A) → (State → A) → A
-on_found (out (Found.At f) b) s hit miss = hit f (with_try s b)
-on_found (out Found.Nothing b) s hit miss = miss (with_try s b)
+unfoldable pub on_found : {A : Type 0} → Out (Option ℕ) (List ℕ) → State → (ℕ → State → A) → (State → A) → A
+on_found (out (Some f) b) s hit miss = hit f (with_try s b)
+on_found (out None b) s hit miss = miss (with_try s b)
 
 -- ---- what several routes do
 
@@ -141,7 +136,7 @@ unfoldable pub set_row : ℕ → ℕ → State → State
 set_row j row s = with_locals s (local_row s.locals j row)
 
 -- the lower is asked once, at a row of tree t, for frames that were taken of that tree; refused, they go to its entry
-unfoldable pub ask_lower : Config → Request → Name → ℕ → ℕ → ℕ → State → Way
+unfoldable pub ask_lower : Config → Request → Option ℕ → ℕ → ℕ → ℕ → State → Way
 ask_lower c q name t row k s =
     on_found (lower_get c.tree_order s.bits row q.order name) s
     (λ f s1. done f k s1)

@@ -1,6 +1,6 @@
 -- 01, Walk: the order of trees, their rating, the list of the best, what is tried at once. Letters: n trees, i a step, t a tree, w the walk,
 -- j the slot of the own local, m the length of the list (01's N). Assumes nothing.
-use Rattle.std.specs.Prelude.{Bool, List, [], ◌∷◌, ℕ, zero, suc, ◌+◌, ◌-◌, ◌*◌, ◌/◌, ◌%◌, eqb, ltb, take}
+use Rattle.std.specs.Prelude.{Bool, List, [], ◌∷◌, ℕ, zero, suc, ◌+◌, ◌-◌, ◌*◌, ◌/◌, ◌%◌, eqb, ltb, take, Option, None}
 use Rattle.rules.specs.Base.{pick, bit_of, ifte, Out, out}
 use Rattle.rules.specs.Words.{Config, tree_frames, tree_rows, entry_at}
 use Rattle.rules.specs.Policy.{policy}
@@ -9,8 +9,6 @@ use Rattle.rules.specs.Locals.{reservation, local_swap}
 use Rattle.rules.specs.Lower.{lower_get}
 use Rattle.rules.specs.declared.Tree.{Tree}
 use Rattle.rules.specs.declared.Request.{Request}
-use Rattle.rules.specs.declared.Name.{Name}
-use Rattle.rules.specs.declared.Name.TheVariants.{Any}
 use Rattle.rules.specs.declared.Kind.{Kind}
 use Rattle.rules.specs.declared.Kind.TheVariants.{Invalid, Steal, Demote, Match}
 use Rattle.rules_calls.specs.declared.Got.{Got}
@@ -70,7 +68,7 @@ admit m key t xs = take m (insert key t xs)
 -- ---- what is done with a tree
 
 -- steal globally, from the entry of tree t
-unfoldable pub steal_global : Config → Request → Name → ℕ → State → Way
+unfoldable pub steal_global : Config → Request → Option ℕ → ℕ → State → Way
 steal_global c q name t s =
     on_took (entry_steal c s.trees t q.class (size q)) s
     (λ e s1. ask_lower c q name t (t * tree_rows c.tree_order) e.class s1)
@@ -80,7 +78,7 @@ steal_global c q name t s =
 -- the one it replaces is unreserved. If the lower refuses, the reservation is undone with the old free
 unfoldable pub reserved_tree : Config → Request → ℕ → ℕ → ℕ → State → Way
 reserved_tree c q j t old s =
-    on_found (lower_get c.tree_order s.bits (t * tree_rows c.tree_order) q.order Any) s
+    on_found (lower_get c.tree_order s.bits (t * tree_rows c.tree_order) q.order None) s
     (λ f s1. on_swap (local_swap s1.locals j (reservation (t * tree_rows c.tree_order) (old - size q))) s1
     (λ l s2. unreserve_local c l q.class s2 (done f q.class) stuck))
     (λ s1. unreserve c t q.class old s1 missed stuck)
@@ -89,7 +87,7 @@ reserved_tree c q j t old s =
 unfoldable pub reserve_or_steal : Config → Request → ℕ → ℕ → State → Way
 reserve_or_steal c q j t s =
     on_taken (entry_reserve c s.trees t q.class (size q)) s
-    (λ e s1. ask_lower c q Any t (t * tree_rows c.tree_order) e.class s1)
+    (λ e s1. ask_lower c q None t (t * tree_rows c.tree_order) e.class s1)
     (λ old s1. reserved_tree c q j t old s1)
     missed
 
@@ -97,7 +95,7 @@ reserve_or_steal c q j t s =
 unfoldable pub access : Config → Request → Walk → ℕ → ℕ → State → Way
 access c q Walk.Near j t s = reserve_or_steal c q j t s
 access c q Walk.Far j t s = reserve_or_steal c q j t s
-access c q Walk.Stealing j t s = steal_global c q Any t s
+access c q Walk.Stealing j t s = steal_global c q None t s
 
 -- ---- the walk
 

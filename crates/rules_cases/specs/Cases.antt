@@ -1,17 +1,14 @@
 -- 01, Bench examples: E1 to E12 as a single table with a single claim, by computing the definitions; and further worked cases for what E1 to E12
 -- leave open, with figures that the Rust gave, or that 01's text gives where the Rust has no answer (Broken, Class 8, Local, Rows, a steal from a
 -- class without locals). Assumes nothing.
-use Rattle.std.specs.Prelude.{◌≡◌, refl, true, List, [], ◌∷◌, ◌++◌, ℕ, ◌+◌, ◌*◌, replicate}
+use Rattle.std.specs.Prelude.{◌≡◌, refl, true, List, [], ◌∷◌, ◌++◌, ℕ, ◌+◌, ◌*◌, replicate, Option, Some, None}
 use Rattle.rules.specs.Base.{both, ifte, all_below, sum, listed, first_in}
 use Rattle.rules.specs.Words.{Config, tree_count, configured, locals_of, slot, local_count, tree_of, tree_word, local_of, local_word}
 use Rattle.rules.specs.Policy.{pair_of, kind_of, cut_of, low_of, high_of, policy_of, policy, kind_at, good, pair_formed, pair_accepted, table_formed, rules_at, table_rules, frames_accepted, places_accepted, default_accepted, accepted}
 use Rattle.rules.specs.Entries.{if_full, class_after, put_of, steal_kind, steal_of, reserve_kind, reserve_of, unreserve_kind, unreserve_of, sync_of, entry_put, keep_took, entry_steal, entry_unreserve, keep_taken, entry_reserve, keep_sync, entry_sync}
 use Rattle.rules.specs.Locals.{in_tree, local_take, local_put, local_row, local_swap, local_clear, has_enough, cyclic, first_local, payer_or, may_pay, may_move, payer_in, steal_any, demote_any}
 use Rattle.rules.specs.Lower.{held, held_in, clear_bits, clear, mark, search_in, has_tree, lower_find, lower_take, lower_get, lower_put}
-use Rattle.rules.specs.declared.Name.{Name}
-use Rattle.rules.specs.declared.Name.TheVariants.{Any, Frame}
 use Rattle.rules.specs.declared.Request.{Request}
-use Rattle.rules.specs.declared.Given.TheVariants as Given
 use Rattle.rules_calls.specs.Statistics.{over_class, entry_free, local_free, entry_alloc, reserved_free, in_use, tally, tallies, total_free, free_trees, statistics}
 use Rattle.rules_calls.specs.State.{index_of, done, missed, missed_at, stuck, or_else, with_trees, with_locals, with_bits, with_try, with_look, on_took, on_taken, on_sync, on_held, on_put, on_swap, on_found, put_entry, set_row, ask_lower, unreserve, unreserve_local}
 use Rattle.rules_calls.specs.FromLocals.{take_by, top_by, top_up, get_local, own_local, pay_from, steal_local, demote_to, move_from, demote_local}
@@ -60,27 +57,27 @@ cases =
     -- one payer only: the first local with enough; refused by the lower, its frames go to the entry
     ∷ record { of = table_t 6144 2 1; calls = stands (0x10000000 ∷ 0x10000000 ∷ 0x20000000 ∷ []) (0x807FC00000000000 ∷ 0x8080000000000020 ∷ 0 ∷ 0 ∷ []) (notched ++ replicate 32 0 ++ held_words 32) ∷ anyone 9 1 ∷ []; figures = all5 ++ tree 0 ∷ tree 1 ∷ local 0 ∷ local 1 ∷ []; wants = 7 ∷ 0 ∷ 0 ∷ 3 ∷ 1 ∷ 0x10000200 ∷ 0x10000000 ∷ 0x805fc00000000000 ∷ 0x8080000000000020 ∷ [] }
     -- an entry put that fills a reserved tree sets the default class
-    ∷ record { of = table_t 4096 1 1; calls = local0 11 0 ∷ gives 11 0 Given.Nothing 0 ∷ []; figures = number ∷ tree 0 ∷ local 0 ∷ []; wants = 0 ∷ 0x30000800 ∷ 0x8000000000000000 ∷ [] }
+    ∷ record { of = table_t 4096 1 1; calls = local0 11 0 ∷ gives 11 0 None 0 ∷ []; figures = number ∷ tree 0 ∷ local 0 ∷ []; wants = 0 ∷ 0x30000800 ∷ 0x8000000000000000 ∷ [] }
     -- the near walk comes twice to a tree at n = 2 and n = 3
     ∷ record { of = table_t5 4096 1; calls = stands (1792 ∷ 1792 ∷ []) (0 ∷ 0 ∷ []) (combed 64) ∷ local0 3 0 ∷ []; figures = all5; wants = 7 ∷ 0 ∷ 0 ∷ 5 ∷ 5 ∷ [] }
     ∷ record { of = table_t5 6144 1; calls = stands (1792 ∷ 1792 ∷ 1792 ∷ []) (0 ∷ 0 ∷ []) (combed 96) ∷ local0 3 0 ∷ []; figures = all5; wants = 7 ∷ 0 ∷ 0 ∷ 6 ∷ 6 ∷ [] }
     -- the start tree is (n / locals) × the local: 8
-    ∷ record { of = table_t 20480 5 1; calls = asks 0 0 (Given.Local 4) Any ∷ []; figures = all5; wants = 0 ∷ 14336 ∷ 0 ∷ 3 ∷ 1 ∷ [] }
+    ∷ record { of = table_t 20480 5 1; calls = asks 0 0 (Some 4) None ∷ []; figures = all5; wants = 0 ∷ 14336 ∷ 0 ∷ 3 ∷ 1 ∷ [] }
     -- the list: Match before Demote before Steal; of two Demotes the fully free one
     ∷ record { of = three 8192 0x05000003; calls = stands (0x400007ff ∷ 0x200007ff ∷ 0x7ff ∷ 0x20000800 ∷ []) (replicate 3 0) (1 ∷ replicate 31 0 ++ 1 ∷ replicate 31 0 ++ 1 ∷ replicate 63 0) ∷ anyone 0 0 ∷ []; figures = all5; wants = 0 ∷ 4097 ∷ 0 ∷ 4 ∷ 1 ∷ [] }
     ∷ record { of = three 8192 0x05000003; calls = stands (0x400007ff ∷ 0x200007ff ∷ 0x400007ff ∷ 0x20000800 ∷ []) (replicate 3 0) (1 ∷ replicate 31 0 ++ 1 ∷ replicate 31 0 ++ 1 ∷ replicate 63 0) ∷ anyone 0 0 ∷ []; figures = all5; wants = 0 ∷ 6144 ∷ 0 ∷ 4 ∷ 1 ∷ [] }
     -- the cut is compared with the tree's own free: 2,040 is rated high, 1,000 low
     ∷ record { of = three 8192 (3 + 4 * 2000 + 65536 * 1 + 16777216 * 200); calls = stands (1000 ∷ 2040 ∷ 0x40000000 ∷ 0x40000000 ∷ []) (replicate 3 0) (held_words 16 ++ 0xffffff ∷ replicate 15 0 ++ 0xff ∷ replicate 31 0 ++ held_words 64) ∷ anyone 0 0 ∷ []; figures = all5; wants = 0 ∷ 2056 ∷ 0 ∷ 4 ∷ 1 ∷ [] }
     -- all held, then one frame given back
-    ∷ record { of = table_t 4096 1 1; calls = starts_held ∷ gives 0 1 Given.Nothing 5 ∷ []; figures = number ∷ tree 0 ∷ tree 1 ∷ []; wants = 0 ∷ 0x20000001 ∷ 0x20000000 ∷ [] }
+    ∷ record { of = table_t 4096 1 1; calls = starts_held ∷ gives 0 1 None 5 ∷ []; figures = number ∷ tree 0 ∷ tree 1 ∷ []; wants = 0 ∷ 0x20000001 ∷ 0x20000000 ∷ [] }
     -- a drain of two classes
     ∷ record { of = table_t 8192 1 1; calls = local0 0 0 ∷ local0 0 1 ∷ drains ∷ []; figures = number ∷ tree 0 ∷ tree 1 ∷ tree 3 ∷ local 0 ∷ local 1 ∷ []; wants = 0 ∷ 0x20000800 ∷ 0x200007ff ∷ 0x7ff ∷ 0 ∷ 0 ∷ [] }
     -- a put of a free frame is NotHeld
-    ∷ record { of = table_t 2048 1 1; calls = gives 0 1 Given.Nothing 0 ∷ []; figures = number ∷ tree 0 ∷ []; wants = 8 ∷ 0x20000800 ∷ [] }
+    ∷ record { of = table_t 2048 1 1; calls = gives 0 1 None 0 ∷ []; figures = number ∷ tree 0 ∷ []; wants = 8 ∷ 0x20000800 ∷ [] }
     -- class 2 is unconfigured, class 8 is none; class 0 has one local
     ∷ record { of = table_t 2048 1 1; calls = anyone 0 2 ∷ []; figures = number ∷ []; wants = 5 ∷ [] }
     ∷ record { of = table_t 2048 1 1; calls = anyone 0 8 ∷ []; figures = number ∷ []; wants = 5 ∷ [] }
-    ∷ record { of = table_t 2048 1 1; calls = asks 0 0 (Given.Local 1) Any ∷ []; figures = number ∷ []; wants = 6 ∷ [] }
+    ∷ record { of = table_t 2048 1 1; calls = asks 0 0 (Some 1) None ∷ []; figures = number ∷ []; wants = 6 ∷ [] }
     -- Broken: an entry one short; a present local on an unreserved tree; an absent local that is not 0; a reserved entry without a holder;
     -- a pair that is not good
     ∷ record { of = table_t 2048 1 1; calls = stands (0x200007FF ∷ []) (0 ∷ 0 ∷ []) (replicate 32 0) ∷ anyone 0 1 ∷ []; figures = number ∷ tree 0 ∷ []; wants = 1 ∷ 0x200007FF ∷ [] }
@@ -89,10 +86,10 @@ cases =
     ∷ record { of = table_t 2048 1 1; calls = stands (0x30000800 ∷ []) (0 ∷ 0 ∷ []) (replicate 32 0) ∷ anyone 0 1 ∷ []; figures = number ∷ []; wants = 1 ∷ [] }
     ∷ record { of = table_t 2048 1 1; calls = stands (0x10000000 ∷ []) (0 ∷ 0x8080000000000000 ∷ []) (replicate 32 0) ∷ anyone 0 1 ∷ []; figures = number ∷ []; wants = 1 ∷ [] }
     -- Class before Local; Misaligned before Class; with no name too the block has to lie below F; a put tests its local, before the lower is asked
-    ∷ record { of = table_t 2048 1 1; calls = asks 0 2 (Given.Local 9) Any ∷ []; figures = number ∷ []; wants = 5 ∷ [] }
-    ∷ record { of = table_t 2048 1 1; calls = asks 1 8 Given.Nothing (Frame 1) ∷ []; figures = number ∷ []; wants = 4 ∷ [] }
+    ∷ record { of = table_t 2048 1 1; calls = asks 0 2 (Some 9) None ∷ []; figures = number ∷ []; wants = 5 ∷ [] }
+    ∷ record { of = table_t 2048 1 1; calls = asks 1 8 None (Some 1) ∷ []; figures = number ∷ []; wants = 4 ∷ [] }
     ∷ record { of = table_t 1000 1 1; calls = anyone 10 0 ∷ []; figures = number ∷ []; wants = 3 ∷ [] }
-    ∷ record { of = table_t 2048 1 1; calls = gives 0 0 (Given.Local 1) 0 ∷ []; figures = number ∷ []; wants = 6 ∷ [] }
+    ∷ record { of = table_t 2048 1 1; calls = gives 0 0 (Some 1) 0 ∷ []; figures = number ∷ []; wants = 6 ∷ [] }
     -- the own local answers the requested class, also where the entry has another
     ∷ record { of = table_t 4096 1 1; calls = stands (0x30000000 ∷ 0x20000800 ∷ []) (0x8080000000000000 ∷ 0 ∷ []) (replicate 64 0) ∷ local0 0 0 ∷ []; figures = all5 ++ tree 0 ∷ local 0 ∷ []; wants = 0 ∷ 0 ∷ 0 ∷ 0 ∷ 1 ∷ 0x30000000 ∷ 0x807ff00000000000 ∷ [] }
     -- a reserving search steals from a tree whose class has no locals
@@ -129,7 +126,7 @@ pub claim : answered examples ≡ given examples
 claim = claims.0
 
 -- where the tests pass, a get and a start are what the cases of `rules_calls` compute behind them
-pub get-behind : (c : Config) (q : Request) (name : Name) (t l b : List ℕ) → standing c t l b ≡ true → get c q name t l b ≡ untested c q name t l b
+pub get-behind : (c : Config) (q : Request) (name : Option ℕ) (t l b : List ℕ) → standing c t l b ≡ true → get c q name t l b ≡ untested c q name t l b
 unfolding get if_standing ifte
 get-behind c q name t l b p = rw p
 

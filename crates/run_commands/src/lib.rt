@@ -3,7 +3,7 @@
 
 ghost use Rattle.std.specs.Prelude.{◌+◌};
 
-use rules::{Given, Name, Request};
+use rules::Request;
 use run_lines::{Arg, Args};
 
 // A line that sets the header, or what is lent. A length lent is held plus one; 0 is the exact one.
@@ -53,7 +53,7 @@ pub enum Store {
 #[derive(Clone, Copy)]
 pub enum Call {
     Start(bool),
-    Get { name: Name, q: Request },
+    Get { name: Option<usize>, q: Request },
     Put { frame: usize, q: Request },
     Drain,
     Stats,
@@ -248,19 +248,19 @@ pub fn fill(w: Args) -> Command {
 }
 
 // The local that a call gives.
-fn given(a: Arg) -> Given {
+fn given(a: Arg) -> Option<usize> {
     if a.kind == 1 {
-        return Given::Nothing;
+        return None;
     }
-    Given::Local(a.value as usize)
+    Some(a.value as usize)
 }
 
 // The frame that a get names.
-fn name(a: Arg) -> Name {
+fn name(a: Arg) -> Option<usize> {
     if a.kind == 1 {
-        return Name::Any;
+        return None;
     }
-    Name::Frame(a.value as usize)
+    Some(a.value as usize)
 }
 
 // Whether the words after FRAME are ORDER CLASS LOCAL.

@@ -1,10 +1,9 @@
 -- The bounds test without the sum; what the functions behind a get and a put require, from the tests that refuse nothing. Assumes nothing.
-use Rattle.std.specs.Prelude.{◌≡◌, true, false, List, ℕ, ◌+◌, ◌-◌, ◌^◌, ◌<◌, ◌≤◌, ltb}
+use Rattle.std.specs.Prelude.{◌≡◌, true, false, List, ℕ, ◌+◌, ◌-◌, ◌^◌, ◌<◌, ◌≤◌, ltb, Option, Some, None}
 use Rattle.std.proofs.Common.{arith, lt-ltb, le-ltb}
 use Rattle.rules.specs.Words.{Config, config, locals_of}
 use Rattle.rules.specs.Policy.{accepted}
 use Rattle.rules.specs.declared.Header.{Header}
-use Rattle.rules.specs.declared.Given.{Given}
 use Rattle.rules.specs.declared.Request.{Request}
 use Rattle.law_rules.specs.Accepted.{accepted-says, locals-most}
 use Rattle.rules_calls.specs.State.{index_of}
@@ -26,10 +25,10 @@ module _ (F f n : ℕ) where
 
 -- ---- what the functions behind a get and a put require
 
-index-lt : (c : Config) (k : ℕ) (g : Given) → locals_of c.places k ≤ 32 → LocalIn c k g → index_of g < 2 ^ 32
+index-lt : (c : Config) (k : ℕ) (g : Option ℕ) → locals_of c.places k ≤ 32 → LocalIn c k g → index_of g < 2 ^ 32
 unfolding index_of
-index-lt c k (Given.Local i) l b = omega arith
-index-lt c k Given.Nothing l b = omega arith
+index-lt c k (Some i) l b = omega arith
+index-lt c k None l b = omega arith
 
 -- a header and table that a start accepts, and arguments of which none is refused
 pub checked-fits : (h : Header) (pairs : List ℕ) (q : Request) (f : ℕ) → accepted (config h pairs) ≡ true → refusal (config h pairs) q f ≡ 0 → Fits h q

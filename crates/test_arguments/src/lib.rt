@@ -5,17 +5,17 @@ ghost use Rattle.std.specs.Prelude.{◌≡◌, List, ℕ, ◌<◌};
 ghost use Rattle.rules.specs.Words.{config};
 ghost use Rattle.rules_calls.specs.Calls.{outcome_of, refuse_local, refuse_class, refusal, frame_of};
 
-use rules::{Given, Header, Name, Request};
+use rules::{Header, Request};
 use rules_calls::{Outcome, Refusal};
 
 // A local given has to be below its class's number.
-fn check_local(h: Header, class: usize, local: Given) -> Outcome
+fn check_local(h: Header, class: usize, local: Option<usize>) -> Outcome
     requires { class < 8 }
     ensures { (pairs : List ℕ) → outcome_of result ≡ refuse_local (config h pairs) class local }
 {
     match local {
-        Given::Nothing => Outcome::Done,
-        Given::Local(i) => {
+        None => Outcome::Done,
+        Some(i) => {
             if i < word_header::locals_of(h, class) {
                 return Outcome::Done;
             }
@@ -59,11 +59,8 @@ pub fn check(h: Header, q: Request, frame: usize) -> Outcome
 }
 
 // The frame that a get names, 0 if none.
-pub fn frame_of(name: Name) -> usize
+pub fn frame_of(name: Option<usize>) -> usize
     ensures { result ≡ frame_of name }
 {
-    match name {
-        Name::Any => 0,
-        Name::Frame(f) => f,
-    }
+    name.unwrap_or(0)
 }

@@ -1,8 +1,7 @@
 -- What the argument tests of a call have shown when its routes begin: the `requires` of the functions behind the exported ones. Assumes nothing.
-use Rattle.std.specs.Prelude.{◌≡◌, ℕ, ◌^◌, ◌<◌, ◌≤◌}
+use Rattle.std.specs.Prelude.{◌≡◌, ℕ, ◌^◌, ◌<◌, ◌≤◌, Option, Some}
 use Rattle.std.proofs.Common.{subst}
 use Rattle.rules.specs.declared.Header.{Header}
-use Rattle.rules.specs.declared.Given.{Given}
 use Rattle.rules.specs.declared.Request.{Request}
 use Rattle.rules_calls.specs.State.{index_of}
 
@@ -16,6 +15,6 @@ pub record Fits (h : Header) (q : Request) : Type 0 where
   pub index : index_of q.local < 2 ^ 32
 
 -- the index of a local that is given
-pub given-small : (g : Given) (i : ℕ) → g ≡ Given.Local i → index_of g < 2 ^ 32 → i < 2 ^ 32
+pub given-small : (g : Option ℕ) (i : ℕ) → g ≡ Some i → index_of g < 2 ^ 32 → i < 2 ^ 32
 unfolding index_of
-given-small g i e h = subst (λ (x : Given). index_of x < 2 ^ 32) e h
+given-small g i e h = subst (λ (x : Option ℕ). index_of x < 2 ^ 32) e h

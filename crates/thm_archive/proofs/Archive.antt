@@ -1,5 +1,5 @@
 -- A chain of the archive's calls is a chain of the promises: so demand 3 holds of it. Assumes nothing.
-use Rattle.std.specs.Prelude.{◌≡◌, refl, Bool, true, false, ◌⊎◌, List, [], ◌∷◌, ℕ, zero, suc, ◌≤◌, eqb, length}
+use Rattle.std.specs.Prelude.{◌≡◌, refl, Bool, true, false, ◌⊎◌, List, [], ◌∷◌, ℕ, zero, suc, ◌≤◌, eqb, length, Option}
 use Rattle.std.proofs.Common.{sym, ap, ap₂, ◌∙◌, subst, inl}
 use Rattle.std.proofs.Math.Logic.{inr, ⊎_elim}
 use native.Mathlib.Omega.{arith}
@@ -8,7 +8,6 @@ use Rattle.rules.specs.Words.{Config, config}
 use Rattle.rules.specs.Lower.{lower_put}
 use Rattle.rules.specs.Policy.{accepted}
 use Rattle.rules.specs.declared.Header.{Header}
-use Rattle.rules.specs.declared.Name.{Name}
 use Rattle.rules.specs.declared.Request.{Request}
 use Rattle.rules_calls.specs.declared.Got.TheVariants as Got
 use Rattle.rules_calls.specs.State.{State, st, Way}
@@ -52,7 +51,7 @@ drained-few (out true s) = omega arith
 drained-few (out false s) = omega arith
 
 module _ (c : Config) (t l b : List ℕ) where
-  get-plain : (q : Request) (name : Name) → Plain (get c q name t l b)
+  get-plain : (q : Request) (name : Option ℕ) → Plain (get c q name t l b)
   unfolding get
   get-plain q name =
       standing-ind Plain c (fresh t l b) _

@@ -1,7 +1,6 @@
 -- Demand 3 for the archive: chains of its calls, and the same chains with outcomes where the archive answers numbers. Assumes nothing.
-use Rattle.std.specs.Prelude.{◌≡◌, Bool, List, [], ◌∷◌, ℕ, zero, suc}
+use Rattle.std.specs.Prelude.{◌≡◌, Bool, List, [], ◌∷◌, ℕ, zero, suc, Option}
 use Rattle.rules.specs.declared.Header.{Header}
-use Rattle.rules.specs.declared.Name.{Name}
 use Rattle.rules.specs.declared.Request.{Request}
 use Rattle.rules_calls.specs.declared.Outcome.{Outcome}
 use Rattle.rules_calls.specs.declared.Granted.{Granted}
@@ -20,7 +19,7 @@ use Rattle.llfree_c.specs.Promises.{StartNumber, GetAnswer, PutNumber, DrainNumb
 -- a call, as the caller sees it: what was asked, and the numbers that were answered; of statistics also the rows lent and the rows after. A start in the chain names a
 -- header and a table of its own, and is lent tree words, local words and bitmap words, each the state's or others
 pub data Call : Type 0 where
-  gets : Name → Request → Answer → Call
+  gets : Option ℕ → Request → Answer → Call
   puts : ℕ → Request → ℕ → Call
   drains : ℕ → Call
   reports : List Tally → Summary → List Tally → Call

@@ -1,10 +1,9 @@
 -- Each promise is complete: two answers that satisfy it for the same input are equal, and so is every lent word after them. Assumes nothing.
-use Rattle.std.specs.Prelude.{◌≡◌, refl, Bool, List, ℕ, zero, suc, ◌≤◌, eqb}
+use Rattle.std.specs.Prelude.{◌≡◌, refl, Bool, List, ℕ, zero, suc, ◌≤◌, eqb, Option}
 use Rattle.std.proofs.Common.{sym, ap, ap₂, ◌∙◌, arith}
 use Rattle.rules.specs.Base.{pick}
 use Rattle.rules.specs.declared.Header.{Header}
 use Rattle.rules.specs.declared.Request.{Request}
-use Rattle.rules.specs.declared.Name.{Name}
 use Rattle.rules_calls.specs.declared.Refusal.{Refusal}
 use Rattle.rules_calls.specs.declared.Outcome.{Outcome}
 use Rattle.rules_calls.specs.declared.Granted.{Granted}
@@ -137,7 +136,7 @@ module _ (h : Header) (pairs : List ℕ) (s : Words) where
   pub start-complete : (all_free : Bool) (r q : Outcome) (e d : Words) → StartPromise h pairs all_free s r e → StartPromise h pairs all_free s q d → (r ≡ q) × (e ≡ d)
   start-complete all_free r q e d P Q = told-once r q e d (P ∙ sym Q)
 
-  pub get-complete : (name : Name) (a : Request) (r q : Reply) (e d : Words) → GetPromise h pairs name a s r e → GetPromise h pairs name a s q d → (r ≡ q) × (e ≡ d)
+  pub get-complete : (name : Option ℕ) (a : Request) (r q : Reply) (e d : Words) → GetPromise h pairs name a s r e → GetPromise h pairs name a s q d → (r ≡ q) × (e ≡ d)
   get-complete name a r q e d P Q =
       let u : State = st e.trees e.locals e.bits r.looks r.tries in
       let v : State = st d.trees d.locals d.bits q.looks q.tries in

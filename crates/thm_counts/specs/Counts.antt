@@ -1,5 +1,5 @@
 -- Looks and tries of a get under their bounds, on any state and for any request. Assumes nothing.
-use Rattle.std.specs.Prelude.{◌≡◌, refl, Bool, true, false, ltb}
+use Rattle.std.specs.Prelude.{◌≡◌, refl, Bool, true, false, ltb, Option, Some, None}
 use Rattle.std.proofs.Common.{ltb-false}
 use mathlib.Core.List.{List, [], ◌∷◌}
 use Prim.Native.Nat.{ℕ, zero, suc, ◌+◌, ◌-◌, ◌*◌, ◌/◌, ◌≤◌}
@@ -11,9 +11,6 @@ use Rattle.rules.specs.Entries.{entry_steal, entry_reserve, entry_sync}
 use Rattle.rules.specs.Locals.{local_take, local_put, local_swap, local_clear, steal_any, demote_any}
 use Rattle.rules.specs.Lower.{lower_get}
 use Rattle.rules.specs.declared.Local.{Local}
-use Rattle.rules.specs.declared.Name.{Name}
-use Rattle.rules.specs.declared.Name.TheVariants.{Any, Frame}
-use Rattle.rules.specs.declared.Given.{Given}
 use Rattle.rules.specs.declared.Request.{Request}
 use Rattle.rules.specs.declared.Payer.{Payer}
 use Rattle.rules_calls.specs.declared.Got.{Got}
@@ -51,12 +48,12 @@ module _ (c : Config) (q : Request) where
   abbrev One : State → Way → Type 0
   One s w = Cost s.looks s.tries 0 1 w
 
-  ask_lower-one : (name : Name) (t row k : ℕ) (s : State) → One s (ask_lower c q name t row k s)
+  ask_lower-one : (name : Option ℕ) (t row k : ℕ) (s : State) → One s (ask_lower c q name t row k s)
   unfolding ask_lower done missed put_entry with_trees with_try
   ask_lower-one name t row k s =
       found-any (One s) (lower_get c.tree_order s.bits row q.order name) s _ _ (λ f b. (omega arith, omega arith)) (λ b. (omega arith, omega arith))
 
-  take_by-one : (up : ℕ → ℕ → State → Way) → ((row free : ℕ) (s : State) → One s (up row free s)) → (name : Name) (j : ℕ) (s : State) → One s (take_by up c q name j s)
+  take_by-one : (up : ℕ → ℕ → State → Way) → ((row free : ℕ) (s : State) → One s (up row free s)) → (name : Option ℕ) (j : ℕ) (s : State) → One s (take_by up c q name j s)
   unfolding take_by done missed missed_at put_entry set_row with_trees with_locals with_try
   take_by-one up f name j s =
       held_any (One s) (local_take c.tree_order s.locals j name (size q)) s _ _ _
@@ -64,7 +61,7 @@ module _ (c : Config) (q : Request) where
       (λ row free l. f row free (with_locals s l))
       (λ l. (omega arith, omega arith))
 
-  top_up-one : (k : ℕ) (name : Name) (j row free : ℕ) (s : State) → One s (top_up k c q name j row free s)
+  top_up-one : (k : ℕ) (name : Option ℕ) (j row free : ℕ) (s : State) → One s (top_up k c q name j row free s)
   unfolding top_up top_by missed_at put_entry with_trees with_locals
   top_up-one zero name j row free s = (omega arith, omega arith)
   top_up-one (suc k) name j row free s =
@@ -75,51 +72,51 @@ module _ (c : Config) (q : Request) where
       (λ l. (omega arith, omega arith)))
       (λ t. (omega arith, omega arith)))
 
-  get_local-one : (k : ℕ) (name : Name) (j : ℕ) (s : State) → One s (get_local k c q name j s)
+  get_local-one : (k : ℕ) (name : Option ℕ) (j : ℕ) (s : State) → One s (get_local k c q name j s)
   unfolding get_local
   get_local-one k name j s = take_by-one (top_up k c q name j) (top_up-one k name j) name j s
 
-  own_local-one : (name : Name) (l : Given) (s : State) → One s (own_local c q name l s)
+  own_local-one : (name : Option ℕ) (l : Option ℕ) (s : State) → One s (own_local c q name l s)
   unfolding own_local missed
-  own_local-one name (Given.Local i) s = get_local-one 1 name (slot c.places q.class i) s
-  own_local-one name Given.Nothing s = (omega arith, omega arith)
+  own_local-one name (Some i) s = get_local-one 1 name (slot c.places q.class i) s
+  own_local-one name None s = (omega arith, omega arith)
 
-  steal_local-one : (name : Name) (s : State) → One s (steal_local c q name s)
+  steal_local-one : (name : Option ℕ) (s : State) → One s (steal_local c q name s)
   unfolding steal_local pay_from missed with_locals
   steal_local-one name s = go (steal_any c s.locals q.class (index_of q.local) name (size q))
     where
-      go : (x : Payer) → One s (pay_from c q name x s)
-      go Payer.Nobody = (omega arith, omega arith)
-      go (Payer.Local k j) =
-          held_any (One s) (local_take c.tree_order s.locals j name (size q)) s _ _ _
-          (λ row l. ask_lower-one name (row / tree_rows c.tree_order) row k (with_locals s l))
+      go : (x : Option Payer) → One s (pay_from c q name x s)
+      go None = (omega arith, omega arith)
+      go (Some p) =
+          held_any (One s) (local_take c.tree_order s.locals p.slot name (size q)) s _ _ _
+          (λ row l. ask_lower-one name (row / tree_rows c.tree_order) row p.class (with_locals s l))
           (λ row free l. (omega arith, omega arith))
           (λ l. (omega arith, omega arith))
 
-  demote_to-one : (name : Name) (l : Local) (g : Given) (s : State) → One s (demote_to c q name l g s)
+  demote_to-one : (name : Option ℕ) (l : Local) (g : Option ℕ) (s : State) → One s (demote_to c q name l g s)
   unfolding demote_to stuck with_locals with_trees
-  demote_to-one name l (Given.Local i) s =
+  demote_to-one name l (Some i) s =
       swap_any (One s) (local_swap s.locals (slot c.places q.class i) l) s _
       (λ old ls. unreserve_local-any (One s) c old q.class (with_locals s ls) _ _
       (λ t. ask_lower-one name _ _ q.class (with_trees (with_locals s ls) t))
       (λ t. (omega arith, omega arith)))
-  demote_to-one name l Given.Nothing s =
+  demote_to-one name l None s =
       unreserve-any (One s) c _ q.class _ s _ _ (λ t. ask_lower-one name _ _ q.class (with_trees s t)) (λ t. (omega arith, omega arith))
 
-  demote_local-one : (name : Name) (s : State) → One s (demote_local c q name s)
+  demote_local-one : (name : Option ℕ) (s : State) → One s (demote_local c q name s)
   unfolding demote_local move_from missed with_locals
   demote_local-one name s = go (demote_any c s.locals q.class (index_of q.local) name (size q))
     where
-      go : (x : Payer) → One s (move_from c q name x s)
-      go Payer.Nobody = (omega arith, omega arith)
-      go (Payer.Local k j) =
-          held_any (One s) (local_take c.tree_order s.locals j name (size q)) s _ _ _
-          (λ row l. swap_any (One s) (local_clear l j) (with_locals s l) _ (λ old ls. demote_to-one name old q.local (with_locals (with_locals s l) ls)))
+      go : (x : Option Payer) → One s (move_from c q name x s)
+      go None = (omega arith, omega arith)
+      go (Some p) =
+          held_any (One s) (local_take c.tree_order s.locals p.slot name (size q)) s _ _ _
+          (λ row l. swap_any (One s) (local_clear l p.slot) (with_locals s l) _ (λ old ls. demote_to-one name old q.local (with_locals (with_locals s l) ls)))
           (λ row free l. (omega arith, omega arith))
           (λ l. (omega arith, omega arith))
 
   -- ---- a tree that is tried
-  steal_global-one : (name : Name) (t : ℕ) (s : State) → One s (steal_global c q name t s)
+  steal_global-one : (name : Option ℕ) (t : ℕ) (s : State) → One s (steal_global c q name t s)
   unfolding steal_global missed with_trees
   steal_global-one name t s =
       took-any (One s) (entry_steal c s.trees t q.class (size q)) s _ _ (λ e ts. ask_lower-one name t _ _ (with_trees s ts)) (λ ts. (omega arith, omega arith))
@@ -127,7 +124,7 @@ module _ (c : Config) (q : Request) where
   reserved-one : (j t old : ℕ) (s : State) → One s (reserved_tree c q j t old s)
   unfolding reserved_tree done missed stuck with_trees with_locals with_try
   reserved-one j t old s =
-      found-any (One s) (lower_get c.tree_order s.bits (t * tree_rows c.tree_order) q.order Any) s _ _
+      found-any (One s) (lower_get c.tree_order s.bits (t * tree_rows c.tree_order) q.order None) s _ _
       (λ f b. swap_any (One s) (local_swap s.locals j _) (with_try s b) _
       (λ l ls. unreserve_local-any (One s) c l q.class (with_locals (with_try s b) ls) _ _ (λ ts. (omega arith, omega arith)) (λ ts. (omega arith, omega arith))))
       (λ b. unreserve-any (One s) c t q.class old (with_try s b) _ _ (λ ts. (omega arith, omega arith)) (λ ts. (omega arith, omega arith)))
@@ -136,11 +133,11 @@ module _ (c : Config) (q : Request) where
   unfolding access reserve_or_steal missed with_trees
   access-one Walk.Near j t s =
       taken-any (One s) (entry_reserve c s.trees t q.class (size q)) s _ _ _
-      (λ e ts. ask_lower-one Any t _ _ (with_trees s ts)) (λ old ts. reserved-one j t old (with_trees s ts)) (λ ts. (omega arith, omega arith))
+      (λ e ts. ask_lower-one None t _ _ (with_trees s ts)) (λ old ts. reserved-one j t old (with_trees s ts)) (λ ts. (omega arith, omega arith))
   access-one Walk.Far j t s =
       taken-any (One s) (entry_reserve c s.trees t q.class (size q)) s _ _ _
-      (λ e ts. ask_lower-one Any t _ _ (with_trees s ts)) (λ old ts. reserved-one j t old (with_trees s ts)) (λ ts. (omega arith, omega arith))
-  access-one Walk.Stealing j t s = steal_global-one Any t s
+      (λ e ts. ask_lower-one None t _ _ (with_trees s ts)) (λ old ts. reserved-one j t old (with_trees s ts)) (λ ts. (omega arith, omega arith))
+  access-one Walk.Stealing j t s = steal_global-one None t s
 
   -- ---- the walk: each look adds at most one try, now or in the list
   admit-length : (m key t : ℕ) (xs : List Candidate) → length (admit m key t xs) ≤ suc (length xs)
@@ -214,36 +211,36 @@ module _ (c : Config) (q : Request) where
       (λ _. weaker s.looks s.tries (trees_of c) 0 (near (trees_of c) - 1 + trees_of c) 0 (search_far c q j (rounded_start (trees_of c) start) s) (omega arith) (omega arith) (far-cost j (rounded_start (trees_of c) start) s))
 
   -- ---- the routes
-  trees-cost : (l : Given) (s : State) → Cost s.looks s.tries (near (trees_of c) - 1 + trees_of c) 1 (search_trees c q l s)
+  trees-cost : (l : Option ℕ) (s : State) → Cost s.looks s.tries (near (trees_of c) - 1 + trees_of c) 1 (search_trees c q l s)
   unfolding search_trees get_reserving
-  trees-cost (Given.Local i) s =
+  trees-cost (Some i) s =
       ifte-ind (Cost s.looks s.tries (near (trees_of c) - 1 + trees_of c) 1) (ltb (locals_of c.places q.class) (trees_of c)) _ _
-      (λ _. from-ind (One s) (Cost s.looks s.tries (near (trees_of c) - 1 + trees_of c) 1) (get_local 1 c q Any (slot c.places q.class i) s)
-      (get_local-one 1 Any (slot c.places q.class i) s)
+      (λ _. from-ind (One s) (Cost s.looks s.tries (near (trees_of c) - 1 + trees_of c) 1) (get_local 1 c q None (slot c.places q.class i) s)
+      (get_local-one 1 None (slot c.places q.class i) s)
       (λ f k v C. (omega (arith, C.0), omega (arith, C.1))) (λ v C. (omega (arith, C.0), omega (arith, C.1))) _ _
-      (λ v C. next (start_tree c q (Given.Local i)) v C) (λ t v C. next t v C))
-      (λ _. weaker s.looks s.tries (trees_of c) 0 (near (trees_of c) - 1 + trees_of c) 1 (search_and_steal c q (start_tree c q (Given.Local i)) s) (omega arith) (omega arith) (stealing-cost (start_tree c q (Given.Local i)) s))
+      (λ v C. next (start_tree c q (Some i)) v C) (λ t v C. next t v C))
+      (λ _. weaker s.looks s.tries (trees_of c) 0 (near (trees_of c) - 1 + trees_of c) 1 (search_and_steal c q (start_tree c q (Some i)) s) (omega arith) (omega arith) (stealing-cost (start_tree c q (Some i)) s))
     where
       next : (start : ℕ) (v : State) → (v.looks ≤ s.looks + 0) × (v.tries + s.looks ≤ s.tries + v.looks + 1)
           → Cost s.looks s.tries (near (trees_of c) - 1 + trees_of c) 1 (search_and_reserve c q (slot c.places q.class i) start v)
       next start v C =
           weaker s.looks s.tries (0 + (near (trees_of c) - 1 + trees_of c)) (1 + 0) (near (trees_of c) - 1 + trees_of c) 1 (search_and_reserve c q (slot c.places q.class i) start v) (omega arith) (omega arith)
           (on s.looks s.tries 0 1 (near (trees_of c) - 1 + trees_of c) 0 v (search_and_reserve c q (slot c.places q.class i) start v) C (reserving-cost (slot c.places q.class i) start v))
-  trees-cost Given.Nothing s = weaker s.looks s.tries (trees_of c) 0 (near (trees_of c) - 1 + trees_of c) 1 (search_and_steal c q (start_tree c q Given.Nothing) s) (omega arith) (omega arith) (stealing-cost (start_tree c q Given.Nothing) s)
+  trees-cost None s = weaker s.looks s.tries (trees_of c) 0 (near (trees_of c) - 1 + trees_of c) 1 (search_and_steal c q (start_tree c q None) s) (omega arith) (omega arith) (stealing-cost (start_tree c q None) s)
 
-  last-cost : (name : Name) (s : State) → Cost s.looks s.tries 0 2 (last_routes c q name s)
+  last-cost : (name : Option ℕ) (s : State) → Cost s.looks s.tries 0 2 (last_routes c q name s)
   unfolding last_routes
   last-cost name s = else-cost s.looks s.tries 0 1 0 1 _ (demote_local c q name) (steal_local-one name s) (demote_local-one name)
 
   unnamed-cost : (s : State) → Cost s.looks s.tries (near (trees_of c) - 1 + trees_of c + 0) 3 (get_any c q s)
   unfolding get_any
-  unnamed-cost s = else-cost s.looks s.tries (near (trees_of c) - 1 + trees_of c) 1 0 2 _ (last_routes c q Any) (trees-cost q.local s) (last-cost Any)
+  unnamed-cost s = else-cost s.looks s.tries (near (trees_of c) - 1 + trees_of c) 1 0 2 _ (last_routes c q None) (trees-cost q.local s) (last-cost None)
 
   named-cost : (f : ℕ) (s : State) → Cost s.looks s.tries 0 4 (get_at c q f s)
   unfolding get_at
   named-cost f s =
-      else-cost s.looks s.tries 0 1 0 3 _ _ (own_local-one (Frame f) q.local s) (λ v.
-      else-cost v.looks v.tries 0 1 0 2 _ (last_routes c q (Frame f)) (steal_global-one (Frame f) (f / tree_frames c.tree_order) v) (last-cost (Frame f)))
+      else-cost s.looks s.tries 0 1 0 3 _ _ (own_local-one (Some f) q.local s) (λ v.
+      else-cost v.looks v.tries 0 1 0 2 _ (last_routes c q (Some f)) (steal_global-one (Some f) (f / tree_frames c.tree_order) v) (last-cost (Some f)))
 
 -- ---- the counts that a get reports
 
@@ -258,7 +255,7 @@ close-tells d a (out Got.Missed s) C = (omega (arith, C.0), omega (arith, C.1))
 close-tells d a (out (Got.MissedAt t) s) C = (omega (arith, C.0), omega (arith, C.1))
 close-tells d a (out Got.Stuck s) C = (omega (arith, C.0), omega (arith, C.1))
 
-get_tells : (d a : ℕ) (c : Config) (q : Request) (name : Name) (t l b : List ℕ) → Cost 0 0 d a (routes c q name (fresh t l b)) → Tells d a (get c q name t l b)
+get_tells : (d a : ℕ) (c : Config) (q : Request) (name : Option ℕ) (t l b : List ℕ) → Cost 0 0 d a (routes c q name (fresh t l b)) → Tells d a (get c q name t l b)
 unfolding get
 get_tells d a c q name t l b C =
     standing-ind (Tells d a) c (fresh t l b) _
@@ -276,17 +273,17 @@ near-some n = go (ltb (n / 16) 4) refl
 
 -- no name: looks at most n + near − 1, and tries at most looks + 3
 pub get-unnamed-counts : (c : Config) (q : Request) (t l b : List ℕ)
-    → ((get c q Any t l b).looks ≤ trees_of c + near (trees_of c) - 1) × ((get c q Any t l b).tries ≤ (get c q Any t l b).looks + 3)
+    → ((get c q None t l b).looks ≤ trees_of c + near (trees_of c) - 1) × ((get c q None t l b).tries ≤ (get c q None t l b).looks + 3)
 unfolding routes
 get-unnamed-counts c q t l b =
-    let T = get_tells (near (trees_of c) - 1 + trees_of c + 0) 3 c q Any t l b (unnamed-cost c q (fresh t l b)) in
+    let T = get_tells (near (trees_of c) - 1 + trees_of c + 0) 3 c q None t l b (unnamed-cost c q (fresh t l b)) in
     (omega (arith, T.0, near-some (trees_of c)), T.1)
 
 -- named: looks 0, tries at most 4
-pub get-named-counts : (c : Config) (q : Request) (f : ℕ) (t l b : List ℕ) → ((get c q (Frame f) t l b).looks ≡ 0) × ((get c q (Frame f) t l b).tries ≤ 4)
+pub get-named-counts : (c : Config) (q : Request) (f : ℕ) (t l b : List ℕ) → ((get c q (Some f) t l b).looks ≡ 0) × ((get c q (Some f) t l b).tries ≤ 4)
 unfolding routes
 get-named-counts c q f t l b =
-    let T = get_tells 0 4 c q (Frame f) t l b (named-cost c q f (fresh t l b)) in
+    let T = get_tells 0 4 c q (Some f) t l b (named-cost c q f (fresh t l b)) in
     (omega (arith, T.0), omega (arith, T.0, T.1))
 
 -- nothing counted by a refusal before the routes
@@ -302,7 +299,7 @@ closed (out (Got.MissedAt t) s) p h = absurd (omega arith)
 closed (out Got.Stuck s) p h = absurd (omega arith)
 
 -- a get refused before the routes (Broken, Order, Bounds, Misaligned, Class, Local) reports 0 and 0
-pub get-refused-counts : (c : Config) (q : Request) (name : Name) (t l b : List ℕ) → 1 ≤ (get c q name t l b).number → (get c q name t l b).number ≤ 6
+pub get-refused-counts : (c : Config) (q : Request) (name : Option ℕ) (t l b : List ℕ) → 1 ≤ (get c q name t l b).number → (get c q name t l b).number ≤ 6
     → ((get c q name t l b).looks ≡ 0) × ((get c q name t l b).tries ≡ 0)
 unfolding get
 get-refused-counts c q name t l b =

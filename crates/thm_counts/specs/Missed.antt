@@ -1,9 +1,8 @@
 -- A get is answered with Memory exactly if the state stands, no argument is refused, and every route came back empty. Assumes nothing.
-use Rattle.std.specs.Prelude.{◌≡◌, refl, true, List, ℕ}
+use Rattle.std.specs.Prelude.{◌≡◌, refl, true, List, ℕ, Option}
 use Rattle.std.proofs.Common.{⊎_elim, arith}
 use Rattle.rules.specs.Base.{out}
 use Rattle.rules.specs.Words.{Config}
-use Rattle.rules.specs.declared.Name.{Name}
 use Rattle.rules.specs.declared.Request.{Request}
 use Rattle.rules_calls.specs.declared.Got.TheVariants as Got
 use Rattle.rules_calls.specs.State.{Way}
@@ -35,7 +34,7 @@ empty-close (out Got.Missed s) e = refl
 empty-close (out (Got.MissedAt t) s) e = refl
 empty-close (out Got.Stuck s) e = absurd e
 
-module _ (c : Config) (q : Request) (name : Name) (t l b : List ℕ) where
+module _ (c : Config) (q : Request) (name : Option ℕ) (t l b : List ℕ) where
   abbrev Why : Told → Type 0
   Why r = r.number ≡ 7 → (standing c t l b ≡ true) × ((refusal c q (frame_of name) ≡ 0) × Empty (routes c q name (fresh t l b)))
 

@@ -1,10 +1,8 @@
 -- A request that no argument test refuses, as the routes ask for it; and the tree of its frame. Assumes nothing.
-use Rattle.std.specs.Prelude.{◌≡◌, true, List, ℕ, suc, ◌-◌, ◌*◌, ◌/◌, ◌<◌, ◌≤◌, length}
+use Rattle.std.specs.Prelude.{◌≡◌, true, List, ℕ, suc, ◌-◌, ◌*◌, ◌/◌, ◌<◌, ◌≤◌, length, Option, Some, None}
 use Rattle.std.proofs.Common.{le-div_iff_mul-le, mul-le-mul_left, mul_comm, arith, pow_pos, lt-ltb, le-leb}
 use Rattle.rules.specs.Words.{Config, tree_frames, tree_rows, trees_of}
 use Rattle.rules.specs.Lower.{has_tree}
-use Rattle.rules.specs.declared.Name.{Name}
-use Rattle.rules.specs.declared.Name.TheVariants.{Any, Frame}
 use Rattle.rules.specs.declared.Request.{Request}
 use Rattle.rules_calls.specs.Calls.{frame_of}
 use Rattle.law_rules.specs.Accepted.{accepted-says, trees-most}
@@ -14,10 +12,10 @@ use Rattle.law_calls.specs.Checked.{Checked}
 use Rattle.thm_keeps.specs.Fine.{Asks}
 
 -- a get of a named frame, or of none
-pub asks : (c : Config) (q : Request) (name : Name) → Checked c q (frame_of name) → Asks c q name
+pub asks : (c : Config) (q : Request) (name : Option ℕ) → Checked c q (frame_of name) → Asks c q name
 unfolding frame_of
-asks c q Any a = record { order = a.order; class = a.class; local = a.local; frame = tt }
-asks c q (Frame f) a = record { order = a.order; class = a.class; local = a.local; frame = (a.aligned, a.bounds) }
+asks c q None a = record { order = a.order; class = a.class; local = a.local; frame = tt }
+asks c q (Some f) a = record { order = a.order; class = a.class; local = a.local; frame = (a.aligned, a.bounds) }
 
 -- the frame's tree exists, and the bitmap has it
 pub asked-tree : (c : Config) → Size c.tree_order → (q : Request) (f : ℕ) → Checked c q f → f / tree_frames c.tree_order < trees_of c

@@ -1,5 +1,5 @@
 -- What one call does to a state that passes the standing rules. One record for each call. Assumes nothing.
-use Rattle.std.specs.Prelude.{◌≡◌, Bool, ◌≢◌, ◌⊎◌, List, length, get_or}
+use Rattle.std.specs.Prelude.{◌≡◌, Bool, ◌≢◌, ◌⊎◌, List, length, get_or, Option}
 use Rattle.std.proofs.Math.Path.{refl, sym, ap}
 use Rattle.std.proofs.Common.{◌∙◌, subst, ⊎_elim, arith}
 use Rattle.std.proofs.Math.Bool.{true, false}
@@ -9,7 +9,6 @@ use Rattle.rules.specs.Base.{both, Out, out}
 use Rattle.rules.specs.Words.{Config, tree_frames, tree_rows, trees_of, local_count, entry_at}
 use Rattle.rules.specs.Policy.{accepted}
 use Rattle.rules.specs.Lower.{bit, held_in, mark}
-use Rattle.rules.specs.declared.Name.{Name}
 use Rattle.rules.specs.declared.Request.{Request}
 use Rattle.rules.specs.declared.Tree.{Tree}
 use Rattle.rules_calls.specs.declared.Got.TheVariants as Got
@@ -33,7 +32,7 @@ use Rattle.thm_keeps.specs.Fresh.{fresh-clear, fresh_set, zeros-at, fresh-entry,
 use Rattle.thm_keeps.specs.Puts.{put_to-settled}
 
 -- ---- get, of any request: b are the bits before, r what the call tells
-pub record GetAny (c : Config) (q : Request) (name : Name) (b : List ℕ) (r : Told) : Type 0 where
+pub record GetAny (c : Config) (q : Request) (name : Option ℕ) (b : List ℕ) (r : Told) : Type 0 where
   -- the rules stand
   pub kept : Kept c r.trees r.locals r.bits
   -- never Broken, never Stuck
@@ -45,7 +44,7 @@ pub record GetAny (c : Config) (q : Request) (name : Name) (b : List ℕ) (r : T
   pub unchanged : r.number ≢ 0 → r.bits ≡ b
 
 -- of a request that no argument test refuses
-pub record GetKeeps (c : Config) (q : Request) (name : Name) (b : List ℕ) (r : Told) : Type 0 where
+pub record GetKeeps (c : Config) (q : Request) (name : Option ℕ) (b : List ℕ) (r : Told) : Type 0 where
   pub any : GetAny c q name b r
   -- Done or Memory
   pub number : (r.number ≡ 0) ⊎ (r.number ≡ 7)
@@ -126,7 +125,7 @@ module _ (c : Config) (t l b : List ℕ) where
       (λ d. absurd (omega (arith, d, e))))
       (λ g. true-false h g)
 
-  pub get_refused : (q : Request) (name : Name) (n : ℕ) → standing c t l b ≡ true → refusal c q (frame_of name) ≡ suc n → get c q name t l b ≡ telling (suc n) 0 0 (fresh t l b)
+  pub get_refused : (q : Request) (name : Option ℕ) (n : ℕ) → standing c t l b ≡ true → refusal c q (frame_of name) ≡ suc n → get c q name t l b ≡ telling (suc n) 0 0 (fresh t l b)
   unfolding get
   get_refused q name n h e = is-refused (refusal c q (frame_of name)) n _ h e
 
@@ -136,10 +135,10 @@ module _ (c : Config) (t l b : List ℕ) where
 
   -- ---- the state passes the test
   module _ (sz : Size c.tree_order) (S : standing c t l b ≡ true) (K : Kept c t l b) where
-    missed-any : (q : Request) (name : Name) (s : State) → Fine c q.order name b (out Got.Missed s) → GetAny c q name b (telling 7 0 0 s)
+    missed-any : (q : Request) (name : Option ℕ) (s : State) → Fine c q.order name b (out Got.Missed s) → GetAny c q name b (telling 7 0 0 s)
     missed-any q name s F = record { kept = F.0; sound = λ x. omega (arith, x); loose = λ x. omega (arith, x); granted = λ x. absurd (omega (arith, x)); unchanged = λ _. F.1 }
 
-    pub close-keeps : (q : Request) (name : Name) (w : Way) → Fine c q.order name b w → GetKeeps c q name b (close w)
+    pub close-keeps : (q : Request) (name : Option ℕ) (w : Way) → Fine c q.order name b w → GetKeeps c q name b (close w)
     unfolding close
     close-keeps q name (out (Got.Done f k) s) F =
         record { any = record { kept = F.0; sound = λ x. omega (arith, x); loose = λ x. omega (arith, x); granted = λ _. F.1; unchanged = λ n. absurd (n refl) }; number = inl refl }
@@ -148,7 +147,7 @@ module _ (c : Config) (t l b : List ℕ) where
     close-keeps q name (out Got.Stuck s) F = absurd F.1
 
     -- get
-    pub get_keeps : (q : Request) (name : Name) → refusal c q (frame_of name) ≡ 0 → GetKeeps c q name b (get c q name t l b)
+    pub get_keeps : (q : Request) (name : Option ℕ) → refusal c q (frame_of name) ≡ 0 → GetKeeps c q name b (get c q name t l b)
     unfolding get
     get_keeps q name e =
         standing-ind (GetKeeps c q name b) c (fresh t l b) _
@@ -192,7 +191,7 @@ module _ (c : Config) (t l b : List ℕ) where
         (λ g. true-false S g)
 
     -- get and put of any request
-    pub get-any : (q : Request) (name : Name) → GetAny c q name b (get c q name t l b)
+    pub get-any : (q : Request) (name : Option ℕ) → GetAny c q name b (get c q name t l b)
     get-any q name = go (refusal c q (frame_of name)) refl
       where
         go : (n : ℕ) → refusal c q (frame_of name) ≡ n → GetAny c q name b (get c q name t l b)

@@ -1,5 +1,5 @@
 -- From a local, with its top up: the rules stand, and a just topped-up local takes its frames. Assumes nothing.
-use Rattle.std.specs.Prelude.{◌≡◌, Bool, false, leb, ltb, get_or}
+use Rattle.std.specs.Prelude.{◌≡◌, Bool, false, leb, ltb, get_or, Option, Some, None}
 use Rattle.std.proofs.Math.Path.{refl, sym, ap, subst}
 use Rattle.std.proofs.Common.{◌∙◌, arith, eq-eqb}
 use Rattle.std.proofs.Math.Bool.{true}
@@ -13,9 +13,6 @@ use Rattle.rules.specs.Entries.{entry_sync}
 use Rattle.rules.specs.Locals.{reservation, in_tree, local_take, local_put}
 use Rattle.rules.specs.Lower.{mark}
 use Rattle.rules.specs.declared.Local.{Local}
-use Rattle.rules.specs.declared.Synced.{Synced}
-use Rattle.rules.specs.declared.Name.{Name}
-use Rattle.rules.specs.declared.Given.{Given}
 use Rattle.rules.specs.declared.Request.{Request}
 use Rattle.rules_calls.specs.State.{State, Way, size, done, missed, missed_at, on_held, on_put, on_sync, with_trees, with_locals, with_try, put_entry, set_row}
 use Rattle.rules_calls.specs.Standing.{tree_on}
@@ -53,10 +50,10 @@ unfolding local_put on_put
 put_same z j t x v again a b p e = rw (p, eq-eqb _ _ e)
 
 -- a sync with equal ways on
-sync-same : (o : Out Synced (List ℕ)) (s : State) (f g : ℕ → State → Way) (m : State → Way) → ((x : ℕ) (ts : List ℕ) → f x (with_trees s ts) ≡ g x (with_trees s ts)) → on_sync o s f m ≡ on_sync o s g m
+sync-same : (o : Out (Option ℕ) (List ℕ)) (s : State) (f g : ℕ → State → Way) (m : State → Way) → ((x : ℕ) (ts : List ℕ) → f x (with_trees s ts) ≡ g x (with_trees s ts)) → on_sync o s f m ≡ on_sync o s g m
 unfolding on_sync
-sync-same (out (Synced.Free n) t) s f g m e = e n t
-sync-same (out Synced.Nothing t) s f g m e = refl
+sync-same (out (Some n) t) s f g m e = e n t
+sync-same (out None t) s f g m e = refl
 
 -- it makes no difference: a just topped-up local takes the frames
 pub never-falls : (falls again : State → Way) (c : Config) (q : Request) (j row free : ℕ) (s : State) → Holds s.locals j row free
@@ -68,7 +65,7 @@ never-falls falls again c q j row free s h =
     (λ x ts. put_same c.tree_order j (row / tree_rows c.tree_order) x (with_trees s ts) again _ _ h.present (ap (λ (y : ℕ). y / tree_rows c.tree_order) h.row)))
 
 -- from a local, with equal ways on where it holds too few
-take_same : (up on : ℕ → ℕ → State → Way) (c : Config) (q : Request) (name : Name) (j : ℕ) (s : State)
+take_same : (up on : ℕ → ℕ → State → Way) (c : Config) (q : Request) (name : Option ℕ) (j : ℕ) (s : State)
     → ((row free : ℕ) → Holds s.locals j row free → up row free s ≡ on row free s) → take_by up c q name j s ≡ take_by on c q name j s
 unfolding take_by on_held local_take with_locals
 take_same up on c q name j s e =
@@ -82,14 +79,14 @@ take_same up on c q name j s e =
     go false p b i d r = rw p
 
 -- from a local with one sync: whatever is done where the topped-up local will not take the frames, the answer and the words are the same
-pub topped-up : (falls : State → Way) (c : Config) (q : Request) (name : Name) (j : ℕ) (s : State)
+pub topped-up : (falls : State → Way) (c : Config) (q : Request) (name : Option ℕ) (j : ℕ) (s : State)
     → get_local 1 c q name j s ≡ take_by (top_with falls (get_local 0 c q name j) c q j) c q name j s
 unfolding get_local top_up
 topped-up falls c q name j s =
     take_same (top_up 1 c q name j) (top_with falls (take_by (top_up 0 c q name j) c q name j) c q j) c q name j s
     (λ row free h. never-falls falls (take_by (top_up 0 c q name j) c q name j) c q j row free s h)
 
-module _ (c : Config) (sz : Size c.tree_order) (q : Request) (name : Name) (A : Asks c q name) (j : ℕ) where
+module _ (c : Config) (sz : Size c.tree_order) (q : Request) (name : Option ℕ) (A : Asks c q name) (j : ℕ) where
   -- from a local; `up` leaves the rules standing
   pub take_by-fine : (up : ℕ → ℕ → State → Way)
       → ((row free : ℕ) (s : State) → Holds s.locals j row free → Kept c s.trees s.locals s.bits → Fine c q.order name s.bits (up row free s))
@@ -145,8 +142,8 @@ module _ (c : Config) (sz : Size c.tree_order) (q : Request) (name : Name) (A : 
   unfolding get_local
   get_local-fine k s K = take_by-fine (top_up k c q name j) (top_up-fine k) s K
 
-module _ (c : Config) (sz : Size c.tree_order) (q : Request) (name : Name) (A : Asks c q name) where
-  pub own_local-fine : (l : Given) (s : State) → Kept c s.trees s.locals s.bits → Fine c q.order name s.bits (own_local c q name l s)
+module _ (c : Config) (sz : Size c.tree_order) (q : Request) (name : Option ℕ) (A : Asks c q name) where
+  pub own_local-fine : (l : Option ℕ) (s : State) → Kept c s.trees s.locals s.bits → Fine c q.order name s.bits (own_local c q name l s)
   unfolding own_local missed
-  own_local-fine (Given.Local i) s K = get_local-fine c sz q name A (slot c.places q.class i) 1 s K
-  own_local-fine Given.Nothing s K = (K, refl)
+  own_local-fine (Some i) s K = get_local-fine c sz q name A (slot c.places q.class i) 1 s K
+  own_local-fine None s K = (K, refl)

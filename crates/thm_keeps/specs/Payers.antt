@@ -1,5 +1,5 @@
 -- Steal from locals and demote leave the rules standing. Assumes nothing.
-use Rattle.std.specs.Prelude.{◌≡◌, refl, true, get_or}
+use Rattle.std.specs.Prelude.{◌≡◌, refl, true, get_or, Option, Some, None}
 use Rattle.std.proofs.Math.Path.{sym, subst}
 use Rattle.std.proofs.Common.{◌∙◌, arith}
 use mathlib.Core.List.{List}
@@ -7,10 +7,8 @@ use Prim.Native.Nat.{ℕ, ◌+◌, ◌-◌, ◌/◌, ◌^◌, ◌<◌}
 use Rattle.std.proofs.Math.ListN.{set, length-set}
 use Rattle.rules.specs.Words.{Config, tree_rows, trees_of, slot, local_word, entry_at, local_at}
 use Rattle.rules.specs.Policy.{policy, kind_at, Configured, Good}
-use Rattle.rules.specs.Locals.{reservation, in_tree, may_pay, may_move, steal_any, demote_any}
+use Rattle.rules.specs.Locals.{reservation, in_tree, may_pay, may_move, steal_any, demote_any, paying}
 use Rattle.rules.specs.declared.Local.{Local}
-use Rattle.rules.specs.declared.Name.{Name}
-use Rattle.rules.specs.declared.Given.{Given}
 use Rattle.rules.specs.declared.Request.{Request}
 use Rattle.rules.specs.declared.Payer.{Payer}
 use Rattle.rules_calls.specs.State.{State, size, index_of, missed, with_trees, with_locals}
@@ -30,9 +28,9 @@ use Rattle.thm_hand.specs.Locals.{load_same, local-room, hand-take, hand-clear, 
 use Rattle.thm_keeps.specs.Fine.{Fine, Asks, in-sought, ask_lower-fine, back-ind}
 use Rattle.thm_keeps.specs.Reserves.{returned-ind}
 
-module _ (c : Config) (sz : Size c.tree_order) (q : Request) (name : Name) (A : Asks c q name) where
+module _ (c : Config) (sz : Size c.tree_order) (q : Request) (name : Option ℕ) (A : Asks c q name) where
   -- ---- steal from locals
-  pay_from-fine : (s : State) → Kept c s.trees s.locals s.bits → (e j : ℕ) → Configured c e → Fine c q.order name s.bits (pay_from c q name (Payer.Local e j) s)
+  pay_from-fine : (s : State) → Kept c s.trees s.locals s.bits → (e j : ℕ) → Configured c e → Fine c q.order name s.bits (pay_from c q name (Some (paying e j)) s)
   unfolding pay_from missed with_locals
   pay_from-fine s K e j conf =
       held-ind (Fine c q.order name s.bits) s c.tree_order j name (size q) _ _ _
@@ -47,17 +45,17 @@ module _ (c : Config) (sz : Size c.tree_order) (q : Request) (name : Name) (A : 
   pub steal_local-fine : (s : State) → Kept c s.trees s.locals s.bits → Fine c q.order name s.bits (steal_local c q name s)
   unfolding steal_local steal_any pay_from missed
   steal_local-fine s K =
-      payer-ind may_pay c s.locals q.class (index_of q.local) name (size q) (λ (x : Payer). Fine c q.order name s.bits (pay_from c q name x s))
+      payer-ind may_pay c s.locals q.class (index_of q.local) name (size q) (λ (x : Option Payer). Fine c q.order name s.bits (pay_from c q name x s))
       (K, refl) (λ e j P. pay_from-fine s K e j P.class) 8 0
 
   -- ---- demote: the reservation (row, free) is in hand, and the frames asked for
   module _ (row free : ℕ) (hr : row < 2 ^ 44) (hf : free < 2 ^ 19) (lt : row / tree_rows c.tree_order < trees_of c) (it : in_tree c.tree_order row name ≡ true) where
-    demote_to-fine : (g : Given) → LocalIn c q.class g → (s : State)
+    demote_to-fine : (g : Option ℕ) → LocalIn c q.class g → (s : State)
         → Hand c s.trees s.locals s.bits (λ i. here (row / tree_rows c.tree_order) free i + here (row / tree_rows c.tree_order) (size q) i) (here (row / tree_rows c.tree_order) 1)
         → Good c q.class (entry_at s.trees (row / tree_rows c.tree_order)).class
         → Fine c q.order name s.bits (demote_to c q name (reservation row free) g s)
     unfolding demote_to with_trees with_locals
-    demote_to-fine (Given.Local x) lx s H good =
+    demote_to-fine (Some x) lx s H good =
         let t : ℕ = row / tree_rows c.tree_order in
         let j : ℕ = slot c.places q.class x in
         let old : Local = local_at s.locals j in
@@ -68,14 +66,14 @@ module _ (c : Config) (sz : Size c.tree_order) (q : Request) (name : Name) (A : 
         (returned-ind (Fine c q.order name s.bits) c sz _ old q.class (here t (size q)) H1 _ _ A.class
         (λ p. (H.inside j p, H.pair q.class x A.class.0 lx p))
         (λ ts H2. ask_lower-fine c sz q name A _ t row q.class H2 lt (in-sought c.tree_order row name it) A.class))
-    demote_to-fine Given.Nothing lx s H good =
+    demote_to-fine None lx s H good =
         let t : ℕ = row / tree_rows c.tree_order in
         back-ind (Fine c q.order name s.bits) c sz s (λ i. here t free i + here t (size q) i) (here t 1) H t q.class free (here t (size q)) nothing _ _ lt A.class good
         (λ i. omega arith) (λ i. omega arith)
         (λ ts H1. ask_lower-fine c sz q name A (with_trees s ts) t row q.class H1 lt (in-sought c.tree_order row name it) A.class)
 
   move_from-fine : (s : State) → Kept c s.trees s.locals s.bits → (e j : ℕ) → Pays may_move c s.locals q.class name (size q) e j
-      → Fine c q.order name s.bits (move_from c q name (Payer.Local e j) s)
+      → Fine c q.order name s.bits (move_from c q name (Some (paying e j)) s)
   unfolding move_from missed with_locals
   move_from-fine s K e j P =
       held-ind (Fine c q.order name s.bits) s c.tree_order j name (size q) _ _ _
@@ -108,5 +106,5 @@ module _ (c : Config) (sz : Size c.tree_order) (q : Request) (name : Name) (A : 
   pub demote_local-fine : (s : State) → Kept c s.trees s.locals s.bits → Fine c q.order name s.bits (demote_local c q name s)
   unfolding demote_local demote_any move_from missed
   demote_local-fine s K =
-      payer-ind may_move c s.locals q.class (index_of q.local) name (size q) (λ (x : Payer). Fine c q.order name s.bits (move_from c q name x s))
+      payer-ind may_move c s.locals q.class (index_of q.local) name (size q) (λ (x : Option Payer). Fine c q.order name s.bits (move_from c q name x s))
       (K, refl) (λ e j P. move_from-fine s K e j P) 7 1

@@ -1,10 +1,9 @@
 -- The frames of a put go to the given local if it holds their tree, else to the entry: the rules stand. Assumes nothing.
-use Rattle.std.specs.Prelude.{◌≡◌, List}
+use Rattle.std.specs.Prelude.{◌≡◌, List, Option, Some, None}
 use Rattle.std.proofs.Math.Path.{refl, ap}
 use Prim.Native.Nat.{ℕ, ◌/◌, ◌<◌}
 use Rattle.std.proofs.Common.{arith}
 use Rattle.rules.specs.Words.{Config, tree_frames, trees_of, slot, local_at}
-use Rattle.rules.specs.declared.Given.{Given}
 use Rattle.rules.specs.declared.Request.{Request}
 use Rattle.rules_calls.specs.State.{State, size, with_trees, with_locals, put_entry}
 use Rattle.rules_calls.specs.Standing.{tree_on}
@@ -26,9 +25,9 @@ module _ (c : Config) (sz : Size c.tree_order) (q : Request) (f : ℕ) (lt : f /
   unfolding put_entry with_trees
   entry-settled s H = (hand-put c sz s.trees s.locals s.bits (here (f / tree_frames c.tree_order) (size q)) nothing H (f / tree_frames c.tree_order) lt (size q) nothing (λ i. omega arith), refl)
 
-  pub put_to-settled : (g : Given) (s : State) → Hand c s.trees s.locals s.bits (here (f / tree_frames c.tree_order) (size q)) nothing → Settled c s.bits (put_to c q f g s)
+  pub put_to-settled : (g : Option ℕ) (s : State) → Hand c s.trees s.locals s.bits (here (f / tree_frames c.tree_order) (size q)) nothing → Settled c s.bits (put_to c q f g s)
   unfolding put_to with_locals
-  put_to-settled (Given.Local i) s H =
+  put_to-settled (Some i) s H =
       let t : ℕ = f / tree_frames c.tree_order in
       let j : ℕ = slot c.places q.class i in
       put-ind (Settled c s.bits) s c.tree_order j t (size q) _ _
@@ -38,4 +37,4 @@ module _ (c : Config) (sz : Size c.tree_order) (q : Request) (f : ℕ) (lt : f /
         refl,
       ))
       (λ _. entry-settled s H)
-  put_to-settled Given.Nothing s H = entry-settled s H
+  put_to-settled None s H = entry-settled s H

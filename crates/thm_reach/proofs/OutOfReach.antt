@@ -1,6 +1,6 @@
 -- Where the free frames are that a refused get of one frame did not reach. Assumes nothing.
 use Rattle.std.proofs.Math.Path.{◌≡◌, refl, sym, ap₂}
-use Rattle.std.proofs.Common.{ap, ◌∙◌, inl, inr}
+use Rattle.std.proofs.Common.{ap, ◌∙◌, inl, inr, Option, None}
 use Rattle.std.specs.Prelude.{Bool, not, List, ℕ, ◌+◌, ◌<◌}
 use Rattle.std.proofs.Math.Bool.{true, false}
 use Rattle.std.proofs.Math.Logic.{⊎_elim}
@@ -10,8 +10,6 @@ use borrow.Author.Tests.{eqb-true, eqb-false, ne_eqb}
 use Rattle.rules.specs.Base.{pick, both, either, sum}
 use Rattle.rules.specs.Words.{Config, trees_of, locals_of, slot, local_count, entry_at, local_at}
 use Rattle.rules.specs.Policy.{kind_at, Configured}
-use Rattle.rules.specs.declared.Name.TheVariants.{Any}
-use Rattle.rules.specs.declared.Given.{Given}
 use Rattle.rules.specs.declared.Request.{Request}
 use Rattle.rules_calls.specs.Standing.{standing}
 use Rattle.rules_calls.specs.Calls.{refusal, get, drain}
@@ -52,7 +50,7 @@ module _ (c : Config) (sz : Size c.tree_order) (ts ls bs : List ℕ) (w : TreeWo
   empty-local j f = by (local_at ls j).present f (λ p. sym (own-free c sz ts ls bs w S j) ∙ ap (λ (b : Bool). pick b (local_at ls j).free 0) p)
 
   -- where nothing is reachable, every free frame is out of reach
-  pub all-out-of-reach : (k : ℕ) (given : Given) → Unreachable c ts ls k given → free_frames bs c.frames ≡ out_of_reach c ts ls k
+  pub all-out-of-reach : (k : ℕ) (given : Option ℕ) → Unreachable c ts ls k given → free_frames bs c.frames ≡ out_of_reach c ts ls k
   unfolding out_of_reach total_free local_free local_count
   all-out-of-reach k given U =
       sym (total-free c sz ts ls bs w S)
@@ -90,13 +88,13 @@ module _ (c : Config) (sz : Size c.tree_order) (ts ls bs : List ℕ) (w : TreeWo
 
 -- a get of one frame that is refused with Memory: every free frame below F is out of reach of its class
 pub memory-out-of-reach : (c : Config) → Size c.tree_order → (t l b : List ℕ) → TreeWords t → standing c t l b ≡ true → (q : Request) → q.order ≡ 0 → refusal c q 0 ≡ 0
-    → (get c q Any t l b).number ≡ 7 → free_frames b c.frames ≡ out_of_reach c t l q.class
+    → (get c q None t l b).number ≡ 7 → free_frames b c.frames ≡ out_of_reach c t l q.class
 memory-out-of-reach c sz t l b w S q single fit n = all-out-of-reach c sz t l b w S q.class q.local ((memory-exactly c sz t l b w S q single fit).0 n)
 
 -- directly after a drain, where no class is Invalid for the request's: it is refused with Memory only if no frame below F is free
 pub drained-full : (c : Config) → Size c.tree_order → (t l b : List ℕ) → TreeWords t → standing c t l b ≡ true → (q : Request) → q.order ≡ 0 → refusal c q 0 ≡ 0
     → ((e : ℕ) → Configured c e → 0 < kind_at c q.class e)
-    → (get c q Any (drain c t l b).trees (drain c t l b).locals (drain c t l b).bits).number ≡ 7 → free_frames b c.frames ≡ 0
+    → (get c q None (drain c t l b).trees (drain c t l b).locals (drain c t l b).bits).number ≡ 7 → free_frames b c.frames ≡ 0
 drained-full c sz t l b w S q single fit v n =
     let D = drain-keeps c t l b sz S (test-kept c sz t l b w S) in
     let w2 = kept-words c _ _ _ D.kept in

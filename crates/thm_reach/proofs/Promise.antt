@@ -1,9 +1,8 @@
 -- The same of every answer that the promise of `get` allows. Assumes nothing.
-use Rattle.std.specs.Prelude.{◌≡◌, true, List, ℕ}
+use Rattle.std.specs.Prelude.{◌≡◌, true, List, ℕ, None}
 use Rattle.std.proofs.Common.{sym, ap, ◌∙◌, arith}
 use Rattle.rules.specs.Words.{config}
 use Rattle.rules.specs.declared.Header.{Header}
-use Rattle.rules.specs.declared.Name.TheVariants.{Any}
 use Rattle.rules.specs.declared.Request.{Request}
 use Rattle.rules_calls.specs.declared.Refusal.{Refusal}
 use Rattle.rules_calls.specs.declared.Granted.{Granted}
@@ -29,7 +28,7 @@ unfolding tell_get number_of
 memory-told g s e = rw e
 
 -- the code's get of one frame with no name answers Memory exactly if nothing reachable has a free frame
-pub promise-memory : (h : Header) (pairs : List ℕ) (q : Request) (s : Words) (r : Reply) (e : Words) → GetPromise h pairs Any q s r e
+pub promise-memory : (h : Header) (pairs : List ℕ) (q : Request) (s : Words) (r : Reply) (e : Words) → GetPromise h pairs None q s r e
     → TreeWords s.trees → standing (config h pairs) s.trees s.locals s.bits ≡ true → q.order ≡ 0 → refusal (config h pairs) q 0 ≡ 0
     → (r.granted ≡ Granted.Refused Refusal.Memory → Unreachable (config h pairs) s.trees s.locals q.class q.local)
     × (Unreachable (config h pairs) s.trees s.locals q.class q.local → r.granted ≡ Granted.Refused Refusal.Memory)

@@ -1,5 +1,5 @@
 -- A search for one frame gives exactly if one of the trees that it visits may be taken of. Assumes nothing.
-use Rattle.std.specs.Prelude.{◌≡◌, Bool, ◌≢◌, ℕ, zero, suc, ◌+◌, ◌-◌, ◌<◌, ◌≤◌, take}
+use Rattle.std.specs.Prelude.{◌≡◌, Bool, ◌≢◌, ℕ, zero, suc, ◌+◌, ◌-◌, ◌<◌, ◌≤◌, take, None}
 use Rattle.std.proofs.Math.Path.{refl, subst}
 use Rattle.std.proofs.Common.{sym, ◌∙◌, not-suc-le-zero, arith}
 use Rattle.std.proofs.Math.Bool.{true, false}
@@ -12,7 +12,6 @@ use Rattle.rules.specs.Policy.{policy, kind_at}
 use Rattle.rules.specs.declared.Tree.{Tree}
 use Rattle.rules.specs.declared.Kind.{Kind}
 use Rattle.rules.specs.declared.Kind.TheVariants.{Invalid, Steal, Demote, Match}
-use Rattle.rules.specs.declared.Name.TheVariants.{Any}
 use Rattle.rules.specs.declared.Request.{Request}
 use Rattle.rules_calls.specs.declared.Got.{Got}
 use Rattle.rules_calls.specs.declared.Walk.{Walk}
@@ -99,7 +98,7 @@ module _ (c : Config) (q : Request) (e : Tree) where
 abbrev pub NoTree : Config → List ℕ → ℕ → Type 0
 NoTree c ts k = (t : ℕ) → t < trees_of c → (entry_at ts t).reserved ≡ false → 0 < (entry_at ts t).free → kind_at c k (entry_at ts t).class ≡ 0
 
-module _ (c : Config) (sz : Size c.tree_order) (q : Request) (A : Asks c q Any) (single : q.order ≡ 0) (ts ls bs : List ℕ) (K : Kept c ts ls bs) where
+module _ (c : Config) (sz : Size c.tree_order) (q : Request) (A : Asks c q None) (single : q.order ≡ 0) (ts ls bs : List ℕ) (K : Kept c ts ls bs) where
   takes-reach : (t : ℕ) → Takes c ts q.class t → ReachedBy c ts ls q
   takes-reach t T = Reachable.entry t T.inside T.unreserved T.some T.allowed
 

@@ -1,5 +1,5 @@
 -- How a route of one frame ends: it gives, by a frame that is reachable; or it misses, shows why, and changes no word. Assumes nothing.
-use Rattle.std.specs.Prelude.{◌≡◌, refl, true, false, ℕ, ◌*◌, ◌/◌, ◌^◌, ◌<◌, ◌≤◌}
+use Rattle.std.specs.Prelude.{◌≡◌, refl, true, false, ℕ, ◌*◌, ◌/◌, ◌^◌, ◌<◌, ◌≤◌, None}
 use Rattle.std.proofs.Common.{sym, ap}
 use Rattle.std.proofs.Math.Path.{subst}
 use mathlib.Core.List.{List}
@@ -8,8 +8,6 @@ use Rattle.rules.specs.Base.{out}
 use Rattle.rules.specs.Words.{Config, tree_rows, trees_of, entry_at, local_at}
 use Rattle.rules.specs.Policy.{kind_at}
 use Rattle.rules.specs.Lower.{clear, lower_find}
-use Rattle.rules.specs.declared.Found.TheVariants.{Nothing}
-use Rattle.rules.specs.declared.Name.TheVariants.{Any}
 use Rattle.rules.specs.declared.Request.{Request}
 use Rattle.rules_calls.specs.declared.Got.{Got}
 use Rattle.rules_calls.specs.declared.Walk.{Walk}
@@ -54,7 +52,7 @@ pub record Takes (c : Config) (ts : List ℕ) (k t : ℕ) : Type 0 where
   pub some : 0 < (entry_at ts t).free
   pub allowed : 0 < kind_at c k (entry_at ts t).class
 
-module _ (c : Config) (sz : Size c.tree_order) (q : Request) (A : Asks c q Any) (single : q.order ≡ 0) (ts ls bs : List ℕ) (K : Kept c ts ls bs) where
+module _ (c : Config) (sz : Size c.tree_order) (q : Request) (A : Asks c q None) (single : q.order ≡ 0) (ts ls bs : List ℕ) (K : Kept c ts ls bs) where
   pub one : size q ≡ 1
   one = ap (λ (o : ℕ). 2 ^ o) single
 
@@ -67,18 +65,18 @@ module _ (c : Config) (sz : Size c.tree_order) (q : Request) (A : Asks c q Any) 
       omega (arith, K.sum (tree_on c.tree_order (local_at ls j)) (K.inside j p), clear-held c.tree_order bs (tree_on c.tree_order (local_at ls j)) sz.least, on-shares c.tree_order (tree_on c.tree_order (local_at ls j)) ls j p refl)
 
   -- the lower does not refuse one frame of a tree with a clear bit
-  pub lower-gives : (row : ℕ) → row / tree_rows c.tree_order < trees_of c → 0 < clear c.tree_order bs (row / tree_rows c.tree_order) → lower_find c.tree_order bs row q.order Any ≡ Nothing → ⊥
+  pub lower-gives : (row : ℕ) → row / tree_rows c.tree_order < trees_of c → 0 < clear c.tree_order bs (row / tree_rows c.tree_order) → lower_find c.tree_order bs row q.order None ≡ None → ⊥
   unfolding lower_find
   lower-gives row lt pos e =
-      let d : lower_find c.tree_order bs row 0 Any ≡ Nothing = subst (λ (o : ℕ). lower_find c.tree_order bs row o Any ≡ Nothing) single e in
+      let d : lower_find c.tree_order bs row 0 None ≡ None = subst (λ (o : ℕ). lower_find c.tree_order bs row o None ≡ None) single e in
       let z : clear c.tree_order bs (row / tree_rows c.tree_order) ≡ 0 = search-clear c.tree_order bs (row / tree_rows c.tree_order) row sz.least (rw (has-trees c ts ls bs K (row / tree_rows c.tree_order) lt) at d) in
       omega arith
 
   module _ (R N : Type 0) (r : R) where
-    pub ask_lower-gives : (t row k : ℕ) → row / tree_rows c.tree_order < trees_of c → 0 < clear c.tree_order bs (row / tree_rows c.tree_order) → (s : State) → s.bits ≡ bs → Ends R N ts ls bs (ask_lower c q Any t row k s)
+    pub ask_lower-gives : (t row k : ℕ) → row / tree_rows c.tree_order < trees_of c → 0 < clear c.tree_order bs (row / tree_rows c.tree_order) → (s : State) → s.bits ≡ bs → Ends R N ts ls bs (ask_lower c q None t row k s)
     ask_lower-gives t row k lt pos s e =
-        ask_lower-ind (Ends R N ts ls bs) c q Any t row k s sz.least sz.most A.order (λ j n. r)
-        (λ f. absurd (lower-gives row lt pos (subst (λ (b : List ℕ). lower_find c.tree_order b row q.order Any ≡ Nothing) e f)))
+        ask_lower-ind (Ends R N ts ls bs) c q None t row k s sz.least sz.most A.order (λ j n. r)
+        (λ f. absurd (lower-gives row lt pos (subst (λ (b : List ℕ). lower_find c.tree_order b row q.order None ≡ None) e f)))
 
     -- a tree that may be taken of gives
     module _ (t : ℕ) (T : Takes c ts q.class t) where
@@ -88,7 +86,7 @@ module _ (c : Config) (sz : Size c.tree_order) (q : Request) (A : Asks c q Any) 
       first-lt : t * tree_rows c.tree_order / tree_rows c.tree_order < trees_of c
       first-lt = rw (first-row c.tree_order sz t) T.inside
 
-      steal_global-gives : (i k : ℕ) → Ends R N ts ls bs (steal_global c q Any t (st ts ls bs i k))
+      steal_global-gives : (i k : ℕ) → Ends R N ts ls bs (steal_global c q None t (st ts ls bs i k))
       unfolding steal_global with_trees
       steal_global-gives i k =
           steal-ind (Ends R N ts ls bs) (st ts ls bs i k) c t q.class (size q) _ _
@@ -98,10 +96,10 @@ module _ (c : Config) (sz : Size c.tree_order) (q : Request) (A : Asks c q Any) 
       reserved-gives : (j old : ℕ) (s : State) → s.bits ≡ bs → Ends R N ts ls bs (reserved_tree c q j t old s)
       unfolding reserved_tree done stuck
       reserved-gives j old s e =
-          found-ind (Ends R N ts ls bs) s c.tree_order (t * tree_rows c.tree_order) q.order Any _ _ sz.least sz.most A.order
+          found-ind (Ends R N ts ls bs) s c.tree_order (t * tree_rows c.tree_order) q.order None _ _ sz.least sz.most A.order
           (λ b n. swap-ind (Ends R N ts ls bs) _ j _ _
           (unreserve_local-ind (Ends R N ts ls bs) _ c _ q.class _ _ (λ p. unreserve-ind (Ends R N ts ls bs) _ c _ q.class _ _ _ (λ x u v w. r) (λ no'. r)) (λ p. r)))
-          (λ f. absurd (lower-gives (t * tree_rows c.tree_order) first-lt first-clear (subst (λ (b : List ℕ). lower_find c.tree_order b (t * tree_rows c.tree_order) q.order Any ≡ Nothing) e f)))
+          (λ f. absurd (lower-gives (t * tree_rows c.tree_order) first-lt first-clear (subst (λ (b : List ℕ). lower_find c.tree_order b (t * tree_rows c.tree_order) q.order None ≡ None) e f)))
 
       reserve-gives : (j i k : ℕ) → Ends R N ts ls bs (reserve_or_steal c q j t (st ts ls bs i k))
       unfolding reserve_or_steal with_trees

@@ -1,5 +1,5 @@
 -- The own local gives one frame exactly if it has one, or its tree's entry has more than one. Assumes nothing.
-use Rattle.std.specs.Prelude.{◌≡◌, ◌⊎◌, ltb, get_or}
+use Rattle.std.specs.Prelude.{◌≡◌, ◌⊎◌, ltb, get_or, None}
 use Rattle.std.proofs.Math.Path.{refl}
 use Rattle.std.proofs.Common.{ap, subst, inl, inr, ⊎_elim, arith}
 use Rattle.std.proofs.Math.Bool.{true}
@@ -11,8 +11,6 @@ use Rattle.rules.specs.Words.{Config, tree_rows, trees_of, tree_word, local_word
 use Rattle.rules.specs.Locals.{reservation, in_tree}
 use Rattle.rules.specs.Lower.{clear, lower_find}
 use Rattle.rules.specs.declared.Local.{Local}
-use Rattle.rules.specs.declared.Found.TheVariants.{Nothing}
-use Rattle.rules.specs.declared.Name.TheVariants.{Any}
 use Rattle.rules.specs.declared.Request.{Request}
 use Rattle.rules_calls.specs.State.{State, st, Way, size, done, missed, missed_at, with_trees, with_locals}
 use Rattle.rules_calls.specs.Standing.{tree_on}
@@ -32,18 +30,18 @@ use Rattle.thm_reach.specs.Ends.{Ends, one, entry-clear, local-clear, lower-give
 abbrev pub Spent : Config → List ℕ → List ℕ → ℕ → Type 0
 Spent c ts ls j = (local_at ls j).present ≡ true → ((local_at ls j).free ≡ 0) × ((entry_at ts (tree_on c.tree_order (local_at ls j))).free ≤ 1)
 
-module _ (c : Config) (sz : Size c.tree_order) (q : Request) (A : Asks c q Any) (single : q.order ≡ 0) (ts ls bs : List ℕ) (K : Kept c ts ls bs)
+module _ (c : Config) (sz : Size c.tree_order) (q : Request) (A : Asks c q None) (single : q.order ≡ 0) (ts ls bs : List ℕ) (K : Kept c ts ls bs)
     (R N : Type 0) (j : ℕ) (here : (local_at ls j).present ≡ true → 0 < (local_at ls j).free → R)
     (there : (local_at ls j).present ≡ true → 1 < (entry_at ts (tree_on c.tree_order (local_at ls j))).free → R) where
   -- a local with a frame, on a tree with a clear bit, gives
   take_gives : R → (up : ℕ → ℕ → State → Way) (s : State) → s.bits ≡ bs → (local_at s.locals j).present ≡ true → 0 < (local_at s.locals j).free
-      → tree_on c.tree_order (local_at s.locals j) < trees_of c → 0 < clear c.tree_order bs (tree_on c.tree_order (local_at s.locals j)) → Ends R N ts ls bs (take_by up c q Any j s)
+      → tree_on c.tree_order (local_at s.locals j) < trees_of c → 0 < clear c.tree_order bs (tree_on c.tree_order (local_at s.locals j)) → Ends R N ts ls bs (take_by up c q None j s)
   unfolding take_by done in_tree with_locals
   take_gives r up s e p pos lt some =
-      held-ind (Ends R N ts ls bs) s c.tree_order j Any (size q) _ up _
-      (λ _ _ _. found-ind (Ends R N ts ls bs) _ c.tree_order (local_at s.locals j).row q.order Any _ _ sz.least sz.most A.order
+      held-ind (Ends R N ts ls bs) s c.tree_order j None (size q) _ up _
+      (λ _ _ _. found-ind (Ends R N ts ls bs) _ c.tree_order (local_at s.locals j).row q.order None _ _ sz.least sz.most A.order
       (λ b n. r)
-      (λ f. absurd (lower-gives c sz q A single ts ls bs K (local_at s.locals j).row lt some (subst (λ (b : List ℕ). lower_find c.tree_order b (local_at s.locals j).row q.order Any ≡ Nothing) e f))))
+      (λ f. absurd (lower-gives c sz q A single ts ls bs K (local_at s.locals j).row lt some (subst (λ (b : List ℕ). lower_find c.tree_order b (local_at s.locals j).row q.order None ≡ None) e f))))
       (λ _ no'. absurd (no' refl (omega (arith, one c sz q A single ts ls bs K))))
       (λ n. true-false p n)
 
@@ -55,7 +53,7 @@ module _ (c : Config) (sz : Size c.tree_order) (q : Request) (A : Asks c q Any) 
 
   -- an empty one is topped up
   top-ends : (local_at ls j).present ≡ true → (local_at ls j).free ≡ 0 → (Spent c ts ls j → N) → (i k : ℕ)
-      → Ends R N ts ls bs (top_up 1 c q Any j (local_at ls j).row (local_at ls j).free (st ts ls bs i k))
+      → Ends R N ts ls bs (top_up 1 c q None j (local_at ls j).row (local_at ls j).free (st ts ls bs i k))
   unfolding top_up top_by missed_at with_trees with_locals
   top-ends p z none i k =
       let t : ℕ = (local_at ls j).row / tree_rows c.tree_order in
@@ -83,13 +81,13 @@ module _ (c : Config) (sz : Size c.tree_order) (q : Request) (A : Asks c q Any) 
       few (inl h) f = absurd (f h)
       few (inr h) f = h
 
-  pub own-ends : (Spent c ts ls j → N) → (i k : ℕ) → Ends R N ts ls bs (get_local 1 c q Any j (st ts ls bs i k))
+  pub own-ends : (Spent c ts ls j → N) → (i k : ℕ) → Ends R N ts ls bs (get_local 1 c q None j (st ts ls bs i k))
   unfolding get_local take_by missed done with_locals in_tree
   own-ends none i k =
-      held-ind (Ends R N ts ls bs) (st ts ls bs i k) c.tree_order j Any (size q) _ _ _
+      held-ind (Ends R N ts ls bs) (st ts ls bs i k) c.tree_order j None (size q) _ _ _
       (λ p _ le.
       let pos : 0 < (local_at ls j).free = omega (arith, le, one c sz q A single ts ls bs K) in
-      found-ind (Ends R N ts ls bs) _ c.tree_order (local_at ls j).row q.order Any _ _ sz.least sz.most A.order
+      found-ind (Ends R N ts ls bs) _ c.tree_order (local_at ls j).row q.order None _ _ sz.least sz.most A.order
       (λ b n. here p pos)
       (λ f. absurd (lower-gives c sz q A single ts ls bs K (local_at ls j).row (K.inside j p) (omega (arith, pos, local-clear c sz q A single ts ls bs K j p)) f)))
       (λ p no'. top-ends p (⊎_elim (λ h. (let z : (local_at ls j).free ≡ 0 = omega (arith, h, one c sz q A single ts ls bs K) in z)) (λ h. absurd (no' refl h)) (below_or (local_at ls j).free (size q))) none i k)

@@ -1,8 +1,7 @@
 -- What a get of one frame with no name can reach on a state, in 01's words. Assumes nothing.
-use Rattle.std.specs.Prelude.{◌≡◌, true, false, ◌≢◌, ◌⊎◌, List, ℕ, ◌<◌, ◌≤◌}
+use Rattle.std.specs.Prelude.{◌≡◌, true, false, ◌≢◌, ◌⊎◌, List, ℕ, ◌<◌, ◌≤◌, Option, Some}
 use Rattle.rules.specs.Words.{Config, trees_of, locals_of, slot, entry_at, local_at}
 use Rattle.rules.specs.Policy.{kind_at}
-use Rattle.rules.specs.declared.Given.{Given}
 use Rattle.rules.specs.declared.Request.{Request}
 use Rattle.rules_calls.specs.Standing.{tree_on}
 
@@ -11,11 +10,11 @@ abbrev pub Lends : Config → ℕ → ℕ → Type 0
 Lends c k e = (kind_at c k e ≡ 1) ⊎ ((kind_at c k e ≡ 3) ⊎ ((kind_at c k e ≡ 2) × (e ≢ k)))
 
 -- the own local is asked for: index i is given, and the class has fewer locals than there are trees
-abbrev pub OwnAsked : Config → ℕ → Given → ℕ → Type 0
-OwnAsked c k given i = (given ≡ Given.Local i) × (locals_of c.places k < trees_of c)
+abbrev pub OwnAsked : Config → ℕ → Option ℕ → ℕ → Type 0
+OwnAsked c k given i = (given ≡ Some i) × (locals_of c.places k < trees_of c)
 
 -- a free frame that a request of class k, with the local `given`, can reach
-pub data Reachable (c : Config) (ts ls : List ℕ) (k : ℕ) (given : Given) : Type 0 where
+pub data Reachable (c : Config) (ts ls : List ℕ) (k : ℕ) (given : Option ℕ) : Type 0 where
   -- in the entry of an unreserved tree whose class is not Invalid for k
   entry : (t : ℕ) → t < trees_of c → (entry_at ts t).reserved ≡ false → 0 < (entry_at ts t).free → 0 < kind_at c k (entry_at ts t).class → Reachable c ts ls k given
   -- in a present local of a class that lends to k
@@ -30,7 +29,7 @@ abbrev pub ReachedBy : Config → List ℕ → List ℕ → Request → Type 0
 ReachedBy c ts ls q = Reachable c ts ls q.class q.local
 
 -- there is none
-pub record Unreachable (c : Config) (ts ls : List ℕ) (k : ℕ) (given : Given) : Type 0 where
+pub record Unreachable (c : Config) (ts ls : List ℕ) (k : ℕ) (given : Option ℕ) : Type 0 where
   -- every unreserved tree with a free frame in its entry is Invalid for k
   pub entries : (t : ℕ) → t < trees_of c → (entry_at ts t).reserved ≡ false → 0 < (entry_at ts t).free → kind_at c k (entry_at ts t).class ≡ 0
   -- every present local of a class that lends to k is empty

@@ -1,5 +1,5 @@
 -- A call that is not Done, Memory or Stuck leaves the words, whatever they are, and what else it is lent. Assumes nothing.
-use Rattle.std.specs.Prelude.{◌≡◌, refl, Bool, ◌≢◌, List, ℕ, ◌/◌, ◌^◌, eqb, length}
+use Rattle.std.specs.Prelude.{◌≡◌, refl, Bool, ◌≢◌, List, ℕ, ◌/◌, ◌^◌, eqb, length, Option}
 use Rattle.std.proofs.Common.{sym, ap, ◌∙◌, subst}
 use Rattle.std.proofs.Math.Bool.{true, false}
 use Rattle.rules.specs.Base.{pick, both, Out, out}
@@ -7,7 +7,6 @@ use Rattle.rules.specs.Words.{Config, config, tree_frames}
 use Rattle.rules.specs.Policy.{accepted}
 use Rattle.rules.specs.Lower.{held_in, has_tree, mark, lower_put}
 use Rattle.rules.specs.declared.Header.{Header}
-use Rattle.rules.specs.declared.Name.{Name}
 use Rattle.rules.specs.declared.Request.{Request}
 use Rattle.rules_calls.specs.declared.Outcome.{Outcome}
 use Rattle.rules_calls.specs.declared.Granted.{Granted}
@@ -37,7 +36,7 @@ module _ (c : Config) (t l b : List ℕ) where
   close-left (out (Got.MissedAt i) s) x y z = absurd (y refl)
   close-left (out Got.Stuck s) x y z = absurd (z refl)
 
-  get_left : (q : Request) (name : Name) → Left t l b (get c q name t l b)
+  get_left : (q : Request) (name : Option ℕ) → Left t l b (get c q name t l b)
   unfolding get
   get_left q name =
       standing-ind (Left t l b) c (fresh t l b) _

@@ -1,5 +1,5 @@
 -- What one call does to the rules and to the ledger, where both agree: a record for each call. Assumes nothing.
-use Rattle.std.specs.Prelude.{◌≡◌, Bool, not, ◌≢◌, ◌⊎◌, eqb, length}
+use Rattle.std.specs.Prelude.{◌≡◌, Bool, not, ◌≢◌, ◌⊎◌, eqb, length, Option}
 use Rattle.std.proofs.Math.Path.{refl, sym, ap, subst}
 use Rattle.std.proofs.Common.{◌∙◌, ⊎_elim, arith, leb-true, leb-false}
 use Rattle.std.proofs.Math.Bool.{true, false}
@@ -11,7 +11,6 @@ use Rattle.rules.specs.Base.{both, either, bit_of}
 use Rattle.rules.specs.Words.{Config, trees_of, local_of, entry_at}
 use Rattle.rules.specs.Policy.{accepted}
 use Rattle.rules.specs.Lower.{bit, clear, mark}
-use Rattle.rules.specs.declared.Name.{Name}
 use Rattle.rules.specs.declared.Request.{Request}
 use Rattle.rules.specs.declared.Tree.{Tree}
 use Rattle.rules_calls.specs.declared.Outcome.{Outcome}
@@ -57,14 +56,14 @@ module _ (c : Config) (sz : Size c.tree_order) (held : ℕ → Bool) (s : Words)
     pub loose : number_got g ≢ 9
 
   -- a get that is Done was of an order that there is
-  get-order : (q : Request) (name : Name) → (get c q name s.trees s.locals s.bits).number ≡ 0 → q.order ≤ c.tree_order
+  get-order : (q : Request) (name : Option ℕ) → (get c q name s.trees s.locals s.bits).number ≡ 0 → q.order ≤ c.tree_order
   get-order q name e = go (refusal c q (frame_of name)) refl
     where
       go : (n : ℕ) → refusal c q (frame_of name) ≡ n → q.order ≤ c.tree_order
       go zero d = (refusal-checked c q (frame_of name) d).order
       go (suc n) d = absurd (omega (arith, e, ap (λ (x : Told). x.number) (get_refused c s.trees s.locals s.bits q name n passes d)))
 
-  pub get-step : (q : Request) (name : Name) (g : Granted) (m : Words) (i k : ℕ)
+  pub get-step : (q : Request) (name : Option ℕ) (g : Granted) (m : Words) (i k : ℕ)
       → tell_get g (st m.trees m.locals m.bits i k) ≡ get c q name s.trees s.locals s.bits → GetStep q g m
   unfolding tell_get number_got handed held_after_get
   get-step q name (Granted.Done f u) m i k P =

@@ -1,10 +1,9 @@
 -- Demand 3: over any finite sequence of calls after an accepted start, nothing drifts. Chains of calls, the ledger of calls and answers, the statements. Assumes nothing.
-use Rattle.std.specs.Prelude.{◌≡◌, Bool, true, false, not, List, [], ◌∷◌, ℕ, ◌+◌, ◌-◌, ◌*◌, ◌/◌, ◌^◌, ◌<◌, eqb, leb, ltb, get_or, length}
+use Rattle.std.specs.Prelude.{◌≡◌, Bool, true, false, not, List, [], ◌∷◌, ℕ, ◌+◌, ◌-◌, ◌*◌, ◌/◌, ◌^◌, ◌<◌, eqb, leb, ltb, get_or, length, Option}
 use Rattle.rules.specs.Base.{pick, both, either, sum}
 use Rattle.rules.specs.Words.{config, tree_frames, tree_count, entry_at, local_at}
 use Rattle.rules.specs.declared.Header.{Header}
 use Rattle.rules.specs.declared.Request.{Request}
-use Rattle.rules.specs.declared.Name.{Name}
 use Rattle.rules_calls.specs.declared.Outcome.{Outcome}
 use Rattle.rules_calls.specs.declared.Granted.{Granted}
 use Rattle.rules_calls.specs.declared.Reply.{Reply}
@@ -24,7 +23,7 @@ pub data Lent : Type 0 where
 -- a call, as the caller sees it: what was asked, and what was answered. A start in the chain names a header and a table of its own, and is lent tree words, local words
 -- and bitmap words, each the state's or others
 pub data Step : Type 0 where
-  gets : Name → Request → Reply → Step
+  gets : Option ℕ → Request → Reply → Step
   puts : ℕ → Request → Outcome → Step
   drains : Outcome → Step
   reports : List Tally → Totals → List Tally → Step

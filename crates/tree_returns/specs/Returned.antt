@@ -1,18 +1,18 @@
 -- The return of a reservation as one operation on the tree words: laws of `unreserve` and `unreserve_local`. Assumes nothing.
-use Rattle.std.specs.Prelude.{◌≡◌, Bool, List, ℕ, ◌/◌}
+use Rattle.std.specs.Prelude.{◌≡◌, Bool, List, ℕ, ◌/◌, Option, Some, None}
 use Rattle.std.proofs.Math.Path.{refl}
 use Rattle.std.proofs.Math.Bool.{true, false}
 use Rattle.rules.specs.Base.{ifte, Out, out}
 use Rattle.rules.specs.Words.{Config, tree_rows}
 use Rattle.rules.specs.Entries.{entry_unreserve}
 use Rattle.rules.specs.declared.Local.{Local}
-use Rattle.rules.specs.declared.Took.{Took}
 use Rattle.rules_calls.specs.State.{State, with_trees, on_took, unreserve, unreserve_local}
+use Rattle.rules.specs.declared.Tree.{Tree}
 
 -- whether it was taken back
-unfoldable pub took_back : Out Took (List ℕ) → Out Bool (List ℕ)
-took_back (out (Took.Yes e) ts) = out true ts
-took_back (out Took.No ts) = out false ts
+unfoldable pub took_back : Out (Option Tree) (List ℕ) → Out Bool (List ℕ)
+took_back (out (Some e) ts) = out true ts
+took_back (out None ts) = out false ts
 
 -- the reservation on tree t, held by class k with n free
 unfoldable pub returned : Config → ℕ → ℕ → ℕ → List ℕ → Out Bool (List ℕ)
@@ -34,10 +34,10 @@ returned-alone true ts s = refl
 returned-alone false ts s = refl
 
 module _ {A : Type 0} (s : State) (next fails : State → A) where
-  back-next : (x : Out Took (List ℕ)) → on_took x s (λ e. next) fails ≡ on_returned (took_back x) s next fails
+  back-next : (x : Out (Option Tree) (List ℕ)) → on_took x s (λ e. next) fails ≡ on_returned (took_back x) s next fails
   unfolding on_took took_back on_returned
-  back-next (out (Took.Yes e) ts) = refl
-  back-next (out Took.No ts) = refl
+  back-next (out (Some e) ts) = refl
+  back-next (out None ts) = refl
 
   pub unreserve-returned : (c : Config) (t k n : ℕ) → unreserve c t k n s next fails ≡ on_returned (returned c t k n s.trees) s next fails
   unfolding unreserve returned

@@ -6,7 +6,7 @@ ghost use Rattle.rules.specs.Base.{out};
 ghost use Rattle.rules.specs.Words.{config};
 ghost use Rattle.tree_returns.specs.Returned.{returned, returned_local};
 
-use rules::{Header, Local, Took};
+use rules::{Header, Local};
 
 // The reservation on tree t is returned, held by a class with so many free. False: the return is stuck.
 pub fn unreserve(
@@ -20,10 +20,7 @@ pub fn unreserve(
     requires { (h.default < 8) × ((class < 8) × (free < 2 ^ 32)) }
     ensures { out result trees.new ≡ returned (config h table.now) t class free trees.old }
 {
-    match tree_words::unreserve(h, table, trees, t, class, free) {
-        Took::Yes(_) => true,
-        Took::No => false,
-    }
+    tree_words::unreserve(h, table, trees, t, class, free).is_some()
 }
 
 // The reservation of a local of a class is returned, if there is one. False: the return is stuck.

@@ -7,7 +7,7 @@ ghost use Rattle.rules.specs.Words.{config, entry_at};
 ghost use Rattle.rules.specs.Entries.{entry_put, entry_unreserve, entry_sync, entry_steal, entry_reserve};
 ghost use Rattle.rules.specs.declared.Header.{Header};
 
-use rules::{Header, Synced, Taken, Took, Tree};
+use rules::{Header, Taken, Tree};
 
 // The word of a tree.
 fn word(trees: &[u32], t: usize) -> u32
@@ -53,47 +53,33 @@ pub fn unreserve(
     t: usize,
     class: usize,
     n: usize,
-) -> Took
+) -> Option<Tree>
     requires { (h.default < 8) × ((class < 8) × (n < 2 ^ 32)) }
     ensures { out result trees.new ≡ entry_unreserve (config h table.now) trees.old t class n }
 {
-    let old = load(trees, t);
-    match word_entry::unreserve(h, table, old, class, n) {
-        Took::No => Took::No,
-        Took::Yes(whole) => {
-            store(trees, t, word_fields::tree_word(whole));
-            Took::Yes(whole)
-        }
-    }
+    let whole = word_entry::unreserve(h, table, load(trees, t), class, n)?;
+    store(trees, t, word_fields::tree_word(whole));
+    Some(whole)
 }
 
 // Sync: all the frames of a reserved entry whose free is above the shortfall.
-pub fn sync(trees: &mut [u32], t: usize, shortfall: usize) -> Synced
+pub fn sync(trees: &mut [u32], t: usize, shortfall: usize) -> Option<u32>
     ensures { out result trees.new ≡ entry_sync trees.old t shortfall }
 {
     let old = load(trees, t);
-    match word_entry::sync(old, shortfall) {
-        Took::No => Synced::Nothing,
-        Took::Yes(empty) => {
-            store(trees, t, word_fields::tree_word(empty));
-            Synced::Free(old.free as u32)
-        }
-    }
+    let empty = word_entry::sync(old, shortfall)?;
+    store(trees, t, word_fields::tree_word(empty));
+    Some(old.free as u32)
 }
 
 // Steal: the entry that is left, or a refusal.
-pub fn steal(table: &[u32; 64], trees: &mut [u32], t: usize, class: usize, n: usize) -> Took
+pub fn steal(table: &[u32; 64], trees: &mut [u32], t: usize, class: usize, n: usize) -> Option<Tree>
     requires { class < 8 }
     ensures { (h : Header) → out result trees.new ≡ entry_steal (config h table.now) trees.old t class n }
 {
-    let old = load(trees, t);
-    match word_entry_takes::steal(table, old, class, n) {
-        Took::No => Took::No,
-        Took::Yes(left) => {
-            store(trees, t, word_fields::tree_word(left));
-            Took::Yes(left)
-        }
-    }
+    let left = word_entry_takes::steal(table, load(trees, t), class, n)?;
+    store(trees, t, word_fields::tree_word(left));
+    Some(left)
 }
 
 // Reserve or steal: the entry that is left; with the whole of it, the frames that it had.
@@ -103,20 +89,15 @@ pub fn reserve_or_steal(
     t: usize,
     class: usize,
     n: usize,
-) -> Taken
+) -> Option<Taken>
     requires { class < 8 }
     ensures { (h : Header) → out result trees.new ≡ entry_reserve (config h table.now) trees.old t class n }
 {
-    let old = load(trees, t);
-    match word_entry_takes::reserve_or_steal(table, old, class, n) {
-        Taken::No => Taken::No,
-        Taken::Part(part) => {
-            store(trees, t, word_fields::tree_word(part));
-            Taken::Part(part)
-        }
-        Taken::Whole(reserved, free) => {
-            store(trees, t, word_fields::tree_word(reserved));
-            Taken::Whole(reserved, free)
-        }
-    }
+    let taken = word_entry_takes::reserve_or_steal(table, load(trees, t), class, n)?;
+    let left = match taken {
+        Taken::Part(part) => part,
+        Taken::Whole(reserved, _) => reserved,
+    };
+    store(trees, t, word_fields::tree_word(left));
+    Some(taken)
 }

@@ -5,7 +5,7 @@ ghost use Rattle.std.specs.Prelude.{◌≡◌, ◌^◌, ◌<◌};
 ghost use Rattle.rules.specs.Words.{config};
 ghost use Rattle.rules.specs.Entries.{if_full, class_after, put_of, unreserve_of, sync_of};
 
-use rules::{Header, Kind, Took, Tree};
+use rules::{Header, Kind, Tree};
 
 // The default class where the tree is now full, else the class it had.
 fn if_full(h: Header, class: usize, free: usize) -> usize
@@ -41,15 +41,15 @@ pub fn put(h: Header, table: &[u32; 64], t: Tree, n: usize) -> Tree
 }
 
 // Unreserve: a holder of this class returns its frames to a reserved entry. No: the entry is unreserved, or the pair is not good.
-pub fn unreserve(h: Header, table: &[u32; 64], t: Tree, class: usize, n: usize) -> Took
+pub fn unreserve(h: Header, table: &[u32; 64], t: Tree, class: usize, n: usize) -> Option<Tree>
     requires { (h.default < 8) × ((class < 8) × ((t.class < 8) × ((t.free < 2 ^ 32) × (n < 2 ^ 32)))) }
     ensures { result ≡ unreserve_of (config h table.now) t class n }
 {
     if t.reserved {
         match word_policy::ask(table, class, t.class, n) {
-            Kind::Invalid => Took::No,
-            Kind::Steal => Took::No,
-            Kind::Demote => Took::Yes(put(
+            Kind::Invalid => None,
+            Kind::Steal => None,
+            Kind::Demote => Some(put(
                 h,
                 table,
                 Tree {
@@ -59,7 +59,7 @@ pub fn unreserve(h: Header, table: &[u32; 64], t: Tree, class: usize, n: usize) 
                 },
                 n,
             )),
-            Kind::Match(_) => Took::Yes(put(
+            Kind::Match(_) => Some(put(
                 h,
                 table,
                 Tree {
@@ -71,23 +71,23 @@ pub fn unreserve(h: Header, table: &[u32; 64], t: Tree, class: usize, n: usize) 
             )),
         }
     } else {
-        Took::No
+        None
     }
 }
 
 // Sync: takes all of a reserved entry whose free is above the shortfall.
-pub fn sync(t: Tree, shortfall: usize) -> Took
+pub fn sync(t: Tree, shortfall: usize) -> Option<Tree>
     ensures { result ≡ sync_of t shortfall }
 {
     if t.reserved {
         if shortfall < t.free {
-            return Took::Yes(Tree {
+            return Some(Tree {
                 free: 0,
                 reserved: true,
                 class: t.class,
             });
         }
-        return Took::No;
+        return None;
     }
-    Took::No
+    None
 }

@@ -1,5 +1,5 @@
 -- The test of a steal, and of a reserve or steal, as one: no reservation, and enough free. Laws of both by it. Assumes nothing.
-use Rattle.std.specs.Prelude.{◌≡◌, refl, Bool, true, false, ℕ, ◌<◌, ◌≤◌, ltb, leb}
+use Rattle.std.specs.Prelude.{◌≡◌, refl, Bool, true, false, ℕ, ◌<◌, ◌≤◌, ltb, leb, Option, None}
 use Rattle.std.proofs.Common.{sym, ◌∙◌, true≢false, ⊎_elim, leb-true, le-ltb, lt-ltb, le-leb}
 use Rattle.std.proofs.lemmas.Bool.{lt-leb}
 use Rattle.rules.specs.Base.{pick}
@@ -8,7 +8,6 @@ use Rattle.rules.specs.Policy.{policy}
 use Rattle.rules.specs.Entries.{steal_of, steal_kind, reserve_of, reserve_kind}
 use Rattle.rules.specs.declared.Kind.{Kind}
 use Rattle.rules.specs.declared.Taken.{Taken}
-use Rattle.rules.specs.declared.Took.{Took}
 use Rattle.rules.specs.declared.Tree.{Tree}
 use Rattle.law_rules.specs.Cases.{below_or}
 
@@ -34,19 +33,19 @@ yields-enough t n {b} tested e = go t.reserved refl
 
 -- refused; or by the policy's answer
 module _ (c : Config) (t : Tree) (k n : ℕ) {b : Bool} (tested : b ≡ may_yield t n) where
-  pub steal-refused : b ≡ false → Took.No ≡ steal_of c t k n
+  pub steal-refused : b ≡ false → None ≡ steal_of c t k n
   unfolding steal_of may_yield
-  steal-refused e = rw (one-test t.reserved t.free n Took.No (steal_kind t k n (policy c k t.class n)), ← tested, e)
+  steal-refused e = rw (one-test t.reserved t.free n None (steal_kind t k n (policy c k t.class n)), ← tested, e)
 
-  pub reserve-refused : b ≡ false → Taken.No ≡ reserve_of c t k n
+  pub reserve-refused : b ≡ false → None ≡ reserve_of c t k n
   unfolding reserve_of may_yield
-  reserve-refused e = rw (one-test t.reserved t.free n Taken.No (reserve_kind t k n (policy c k t.class n)), ← tested, e)
+  reserve-refused e = rw (one-test t.reserved t.free n None (reserve_kind t k n (policy c k t.class n)), ← tested, e)
 
   module _ (may : b ≡ true) {kind answer : Kind} (asked : kind ≡ policy c k t.class n) (is : kind ≡ answer) where
-    pub steal-by : {x : Took} → x ≡ steal_kind t k n answer → x ≡ steal_of c t k n
+    pub steal-by : {x : Option Tree} → x ≡ steal_kind t k n answer → x ≡ steal_of c t k n
     unfolding steal_of may_yield
-    steal-by h = rw (one-test t.reserved t.free n Took.No (steal_kind t k n (policy c k t.class n)), ← tested, may, ← asked, is) h
+    steal-by h = rw (one-test t.reserved t.free n None (steal_kind t k n (policy c k t.class n)), ← tested, may, ← asked, is) h
 
-    pub reserve-by : {x : Taken} → x ≡ reserve_kind t k n answer → x ≡ reserve_of c t k n
+    pub reserve-by : {x : Option Taken} → x ≡ reserve_kind t k n answer → x ≡ reserve_of c t k n
     unfolding reserve_of may_yield
-    reserve-by h = rw (one-test t.reserved t.free n Taken.No (reserve_kind t k n (policy c k t.class n)), ← tested, may, ← asked, is) h
+    reserve-by h = rw (one-test t.reserved t.free n None (reserve_kind t k n (policy c k t.class n)), ← tested, may, ← asked, is) h

@@ -7,7 +7,7 @@ ghost use Rattle.rules.specs.declared.Header.{Header};
 ghost use Rattle.rules.specs.Entries.{steal_of, reserve_of};
 ghost use Rattle.word_entry_takes.specs.Yield.{may_yield};
 
-use rules::{Kind, Taken, Took, Tree};
+use rules::{Kind, Taken, Tree};
 
 // Whether an entry may yield n frames: it has no reservation, and enough free.
 fn may_yield(t: Tree, n: usize) -> bool
@@ -20,26 +20,26 @@ fn may_yield(t: Tree, n: usize) -> bool
 }
 
 // Steal: the entry that is left, or a refusal.
-pub fn steal(table: &[u32; 64], t: Tree, class: usize, n: usize) -> Took
+pub fn steal(table: &[u32; 64], t: Tree, class: usize, n: usize) -> Option<Tree>
     requires { (class < 8) × (t.class < 8) }
     ensures { (h : Header) → result ≡ steal_of (config h table.now) t class n }
 {
     if !may_yield(t, n) {
-        return Took::No;
+        return None;
     }
     match word_policy::ask(table, class, t.class, n) {
-        Kind::Invalid => Took::No,
-        Kind::Steal => Took::Yes(Tree {
+        Kind::Invalid => None,
+        Kind::Steal => Some(Tree {
             free: t.free - n,
             reserved: false,
             class: t.class,
         }),
-        Kind::Demote => Took::Yes(Tree {
+        Kind::Demote => Some(Tree {
             free: t.free - n,
             reserved: false,
             class: class,
         }),
-        Kind::Match(_) => Took::Yes(Tree {
+        Kind::Match(_) => Some(Tree {
             free: t.free - n,
             reserved: false,
             class: class,
@@ -48,15 +48,15 @@ pub fn steal(table: &[u32; 64], t: Tree, class: usize, n: usize) -> Took
 }
 
 // Reserve or steal: the entry that is left; with the whole of it, the frames that it had.
-pub fn reserve_or_steal(table: &[u32; 64], t: Tree, class: usize, n: usize) -> Taken
+pub fn reserve_or_steal(table: &[u32; 64], t: Tree, class: usize, n: usize) -> Option<Taken>
     requires { (class < 8) × ((t.class < 8) × (t.free < 2 ^ 32)) }
     ensures { (h : Header) → result ≡ reserve_of (config h table.now) t class n }
 {
     if !may_yield(t, n) {
-        return Taken::No;
+        return None;
     }
     match word_policy::ask(table, class, t.class, n) {
-        Kind::Invalid => Taken::No,
+        Kind::Invalid => None,
         Kind::Steal => Taken::Part(Tree {
             free: t.free - n,
             reserved: false,

@@ -23,7 +23,7 @@ returns c = (
       c.index_of-i.ensures
       c.size-n.ensures.0
       c.demote_any-payer.ensures
-      c.in-Local.is
+      c.in-Some.is
       (c.pay.ensures _)
       c.clear-l.ensures.0
       c.demote_to.ensures.0,

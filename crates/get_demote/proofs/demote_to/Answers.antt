@@ -6,12 +6,12 @@ use Rattle.get_demote.specs.Demoted.{displaced, displaced-stuck, itself, itself-
 use Rattle.get_demote.proofs.demote_to.Goals as goal
 
 pub slot-requires : goal.slot-requires
-slot-requires c = (search rules, given-small _ _ c.in-Local.is c.requires.0.index)
+slot-requires c = (search rules, given-small _ _ c.in-Some.is c.requires.0.index)
 
 pub returns-then-not-unreserve_local : goal.returns-then-not-unreserve_local
 returns-then-not-unreserve_local c = (
   displaced-stuck _ _ _ _ _
-      c.in-Local.is
+      c.in-Some.is
       c.slot.ensures
       c.swap-old.ensures.0
       c.unreserve_local.ensures
@@ -23,7 +23,7 @@ returns-then-not-unreserve_local c = (
 pub returns-then-not-unreserve : goal.returns-then-not-unreserve
 returns-then-not-unreserve c = (
   itself-stuck _ _ _ _ _
-      c.in-Nothing.is
+      c.in-None.is
       c.unreserve.ensures
       c.if-not-unreserve.true
       (c.stuck-then-not-unreserve.ensures.0 _ _ _),
@@ -33,7 +33,7 @@ returns-then-not-unreserve c = (
 pub returns-else-not-unreserve_local : goal.returns-else-not-unreserve_local
 returns-else-not-unreserve_local c = (
   displaced _ _ _ _ _
-      c.in-Local.is
+      c.in-Some.is
       c.slot.ensures
       c.swap-old.ensures.0
       c.unreserve_local.ensures
@@ -45,9 +45,9 @@ returns-else-not-unreserve_local c = (
 pub returns-else-not-unreserve : goal.returns-else-not-unreserve
 returns-else-not-unreserve c = (
   itself _ _ _ _ _
-      c.in-Nothing.is
+      c.in-None.is
       c.unreserve.ensures
       c.if-not-unreserve.false
-      (c.ask_lower-in-Nothing.ensures.0 _),
-  c.ask_lower-in-Nothing.ensures.1,
+      (c.ask_lower-in-None.ensures.0 _),
+  c.ask_lower-in-None.ensures.1,
 )

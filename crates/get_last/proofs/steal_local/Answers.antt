@@ -21,7 +21,7 @@ returns c = (
       c.index_of-i.ensures
       c.size-n.ensures.0
       c.steal_any-payer.ensures
-      c.in-Local.is
+      c.in-Some.is
       (c.pay-row.ensures _)
       (c.ask_lower.ensures.0 _)
       refl,

@@ -5,22 +5,22 @@ use borrow.Author.Rules.{rules}
 use Rattle.get_own.proofs.own_local.Goals as goal
 
 pub slot-j-requires : goal.slot-j-requires
-slot-j-requires c = (search rules, given-small _ _ c.in-Local.is c.requires.1.0)
+slot-j-requires c = (search rules, given-small _ _ c.in-Some.is c.requires.1.0)
 
-pub returns-in-Local : goal.returns-in-Local
+pub returns-in-Some : goal.returns-in-Some
 unfolding own_local
-returns-in-Local c = (
+returns-in-Some c = (
   rw (
-    c.in-Local.is,
+    c.in-Some.is,
     ← c.slot-j.ensures,
     ← c.get_local.ensures.0,
   ),
   (search rules, search rules),
 )
 
-pub returns-in-Nothing : goal.returns-in-Nothing
+pub returns-in-None : goal.returns-in-None
 unfolding own_local
-returns-in-Nothing c = (
-  rw c.in-Nothing.is (c.missed.ensures.0 _ _ _),
+returns-in-None c = (
+  rw c.in-None.is (c.missed.ensures.0 _ _ _),
   (search rules, search rules),
 )

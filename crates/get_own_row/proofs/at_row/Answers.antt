@@ -3,21 +3,21 @@ use native.Mathlib.Omega.{arith}
 use Rattle.get_own_row.specs.Own.{row-found, row-refused}
 use Rattle.get_own_row.proofs.at_row.Goals as goal
 
-pub returns-in-At : goal.returns-in-At
-returns-in-At c = (
+pub returns-in-Some : goal.returns-in-Some
+returns-in-Some c = (
   row-found _ _ _ _ _ _
       c.lower_get.ensures
-      c.in-At.is
+      c.in-Some.is
       c.set_start.ensures
       (c.done.ensures.0 _ _ _),
   omega (arith, c.done.ensures.1),
 )
 
-pub returns-in-Nothing : goal.returns-in-Nothing
-returns-in-Nothing c = (
+pub returns-in-None : goal.returns-in-None
+returns-in-None c = (
   row-refused _ _ _ _ _ _
       c.lower_get.ensures
-      c.in-Nothing.is
+      c.in-None.is
       c.size.ensures.0
       c.put.ensures
       (c.missed_at.ensures.0 _ _ _),

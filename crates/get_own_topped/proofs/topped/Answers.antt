@@ -11,7 +11,7 @@ returns-then-put c =
     topped-took _ _ _ _ _ _ _ _ _ _
     c.if-n-free.false
     c.sync.ensures
-    c.in-Free.is
+    c.in-Some.is
     c.put.ensures
     c.if-put.true
 
@@ -21,15 +21,15 @@ returns-else-put c =
     topped-refused _ _ _ _ _ _ _ _ _ _
     c.if-n-free.false
     c.sync.ensures
-    c.in-Free.is
+    c.in-Some.is
     c.put.ensures
     c.if-put.false
-    c.put-in-Free.ensures
+    c.put-in-Some.ensures
 
-pub returns-in-Nothing : goal.returns-in-Nothing
-returns-in-Nothing c =
+pub returns-in-None : goal.returns-in-None
+returns-in-None c =
     λ b looks tries.
     topped-nothing _ _ _ _ _ _ _ _ _ _
     c.if-n-free.false
     c.sync.ensures
-    c.in-Nothing.is
+    c.in-None.is

@@ -22,15 +22,15 @@ overflow_add-tries c = omega (arith, c.requires.1.1)
 pub unreserve-back-requires : goal.unreserve-back-requires
 unreserve-back-requires c = (c.requires.0.default, (c.requires.0.class, search rules))
 
-pub overflow_add-tries-in-Nothing : goal.overflow_add-tries-in-Nothing
-overflow_add-tries-in-Nothing c = omega (arith, c.requires.1.1)
+pub overflow_add-tries-in-None : goal.overflow_add-tries-in-None
+overflow_add-tries-in-None c = omega (arith, c.requires.1.1)
 
-pub returns-in-At : goal.returns-in-At
-returns-in-At c = (
+pub returns-in-Some : goal.returns-in-Some
+returns-in-Some c = (
   reserved-stored _ _ _ _ _ _
       c.lower_get.ensures
       c.done.ensures.1
-      c.in-At.is
+      c.in-Some.is
       c.size.ensures.0
       c.less-free.ensures.0
       c.reservation.ensures
@@ -41,14 +41,14 @@ returns-in-At c = (
   omega (arith, c.done.ensures.1, c.or_stuck.ensures.1),
 )
 
-pub returns-in-Nothing : goal.returns-in-Nothing
-returns-in-Nothing c = (
+pub returns-in-None : goal.returns-in-None
+returns-in-None c = (
   reserved-undone _ _ _ _ _ _
       c.lower_get.ensures
       c.missed.ensures.1
-      c.in-Nothing.is
+      c.in-None.is
       c.unreserve-back.ensures
       (c.missed.ensures.0 _ _ _)
-      (c.or_stuck-in-Nothing.ensures.0 _ _ _),
-  omega (arith, c.missed.ensures.1, c.or_stuck-in-Nothing.ensures.1),
+      (c.or_stuck-in-None.ensures.0 _ _ _),
+  omega (arith, c.missed.ensures.1, c.or_stuck-in-None.ensures.1),
 )

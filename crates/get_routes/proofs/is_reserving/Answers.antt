@@ -2,10 +2,10 @@
 use Rattle.get_routes.specs.Turn.{reserving}
 use Rattle.get_routes.proofs.is_reserving.Goals as goal
 
-pub returns-in-Local : goal.returns-in-Local
+pub returns-in-Some : goal.returns-in-Some
 unfolding reserving
-returns-in-Local c = λ pairs. rw (c.in-Local.is, ← c.locals_of.ensures.0, ← c.tree_count.ensures.0)
+returns-in-Some c = λ pairs. rw (c.in-Some.is, ← c.locals_of.ensures.0, ← c.tree_count.ensures.0)
 
-pub returns-in-Nothing : goal.returns-in-Nothing
+pub returns-in-None : goal.returns-in-None
 unfolding reserving
-returns-in-Nothing c = λ pairs. rw c.in-Nothing.is
+returns-in-None c = λ pairs. rw c.in-None.is

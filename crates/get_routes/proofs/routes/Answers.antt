@@ -8,9 +8,9 @@ use Rattle.get_routes.proofs.routes.Goals as goal
 pub get_at-requires : goal.get_at-requires
 get_at-requires c = (c.requires, omega arith)
 
-pub returns-in-Frame : goal.returns-in-Frame
+pub returns-in-Some : goal.returns-in-Some
 unfolding routes
-returns-in-Frame c = rw c.in-Frame.is c.get_at.ensures.0
+returns-in-Some c = rw c.in-Some.is c.get_at.ensures.0
 
 pub search_trees-r-requires : goal.search_trees-r-requires
 search_trees-r-requires c = (c.requires, c.requires.index)

@@ -2,12 +2,12 @@
 use Rattle.rules_calls.specs.State.{index_of}
 use Rattle.get_steps.proofs.index_of.Goals as goal
 
-pub returns-in-Local : goal.returns-in-Local
+pub returns-in-Some : goal.returns-in-Some
 unfolding index_of
-returns-in-Local c =
-    rw c.in-Local.is
+returns-in-Some c =
+    rw c.in-Some.is
 
-pub returns-in-Nothing : goal.returns-in-Nothing
+pub returns-in-None : goal.returns-in-None
 unfolding index_of
-returns-in-Nothing c =
-    rw c.in-Nothing.is
+returns-in-None c =
+    rw c.in-None.is

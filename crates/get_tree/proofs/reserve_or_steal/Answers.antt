@@ -3,33 +3,33 @@ use Rattle.get_tree.specs.Stolen.{reserve-none, reserve-part, reserve-whole}
 use native.Mathlib.Omega.{arith}
 use Rattle.get_tree.proofs.reserve_or_steal.Goals as goal
 
-pub returns-in-No : goal.returns-in-No
-returns-in-No c = (
+pub returns-in-None : goal.returns-in-None
+returns-in-None c = (
   reserve-none _ _ _ _ _
       c.size.ensures.0
       (c.reserve_or_steal.ensures _)
-      c.in-No.is
+      c.in-None.is
       (c.missed.ensures.0 _ _ _),
   omega (arith, c.missed.ensures.1),
 )
 
-pub returns-in-Part : goal.returns-in-Part
-returns-in-Part c = (
+pub returns-in-Some-Part : goal.returns-in-Some-Part
+returns-in-Some-Part c = (
   reserve-part _ _ _ _ _
       c.size.ensures.0
       (c.reserve_or_steal.ensures _)
-      c.in-Part.is
+      c.in-Some-Part.is
       (c.ask_lower.ensures.0 _)
       (omega arith),
   c.ask_lower.ensures.1,
 )
 
-pub returns-in-Whole : goal.returns-in-Whole
-returns-in-Whole c = (
+pub returns-in-Some-Whole : goal.returns-in-Some-Whole
+returns-in-Some-Whole c = (
   reserve-whole _ _ _ _ _
       c.size.ensures.0
       (c.reserve_or_steal.ensures _)
-      c.in-Whole.is
+      c.in-Some-Whole.is
       c.reserved.ensures.0,
   c.reserved.ensures.1,
 )

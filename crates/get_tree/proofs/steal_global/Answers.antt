@@ -3,22 +3,22 @@ use Rattle.get_tree.specs.Stolen.{steal-none, steal-asks}
 use native.Mathlib.Omega.{arith}
 use Rattle.get_tree.proofs.steal_global.Goals as goal
 
-pub returns-in-No : goal.returns-in-No
-returns-in-No c = (
+pub returns-in-None : goal.returns-in-None
+returns-in-None c = (
   steal-none _ _ _ _ _
       c.size.ensures.0
       (c.steal.ensures _)
-      c.in-No.is
+      c.in-None.is
       (c.missed.ensures.0 _ _ _),
   omega (arith, c.missed.ensures.1),
 )
 
-pub returns-in-Yes : goal.returns-in-Yes
-returns-in-Yes c = (
+pub returns-in-Some : goal.returns-in-Some
+returns-in-Some c = (
   steal-asks _ _ _ _ _
       c.size.ensures.0
       (c.steal.ensures _)
-      c.in-Yes.is
+      c.in-Some.is
       (c.ask_lower.ensures.0 _)
       (omega arith),
   c.ask_lower.ensures.1,

@@ -2,13 +2,13 @@
 use Rattle.local_payers.specs.Loops.{passes, payer-end, pays}
 use Rattle.local_payers.proofs.payer_in.Goals as goal
 
-pub returns-in-Local : goal.returns-in-Local
-returns-in-Local c =
+pub returns-in-Some : goal.returns-in-Some
+returns-in-Some c =
     pays _ _ _ _ _ _ _ _
     c.loop-d.invariant
     c.loop-d-test.true
     c.payer_at-payer.ensures
-    c.in-Local.is
+    c.in-Some.is
 
 pub loop-d-preserved : goal.loop-d-preserved
 loop-d-preserved c =

@@ -2,12 +2,12 @@
 use Rattle.rules.specs.Locals.{in_tree}
 use Rattle.local_words.proofs.in_tree.Goals as goal
 
-pub returns-in-Any : goal.returns-in-Any
+pub returns-in-None : goal.returns-in-None
 unfolding in_tree
-returns-in-Any c =
-    rw c.in-Any.is
+returns-in-None c =
+    rw c.in-None.is
 
-pub returns-in-Frame : goal.returns-in-Frame
+pub returns-in-Some : goal.returns-in-Some
 unfolding in_tree
-returns-in-Frame c =
-    rw c.in-Frame.is
+returns-in-Some c =
+    rw c.in-Some.is

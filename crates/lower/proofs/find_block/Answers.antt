@@ -13,21 +13,21 @@ pub returns-then-has_tree : goal.returns-then-has_tree
 unfolding lower_find
 returns-then-has_tree c =
     rw (
-      c.in-Any.is,
+      c.in-None.is,
       ← c.has_tree.ensures,
       c.if-has_tree.true,
       ← c.find.ensures,
     )
 
 pub is_free-requires : goal.is_free-requires
-is_free-requires c = frame-block 11 _ _ (omega arith) (omega arith) c.requires _ (sym c.has_tree-in-Frame.ensures ∙ c.if-has_tree-2.true)
+is_free-requires c = frame-block 11 _ _ (omega arith) (omega arith) c.requires _ (sym c.has_tree-in-Some.ensures ∙ c.if-has_tree-2.true)
 
 pub returns-then-is_free : goal.returns-then-is_free
 unfolding lower_find
 returns-then-is_free c =
     rw (
-      c.in-Frame.is,
-      ← c.has_tree-in-Frame.ensures,
+      c.in-Some.is,
+      ← c.has_tree-in-Some.ensures,
       c.if-has_tree-2.true,
       ← c.is_free.ensures,
       c.if-is_free.true,
@@ -37,8 +37,8 @@ pub returns-then-has_tree-2 : goal.returns-then-has_tree-2
 unfolding lower_find
 returns-then-has_tree-2 c =
     rw (
-      c.in-Frame.is,
-      ← c.has_tree-in-Frame.ensures,
+      c.in-Some.is,
+      ← c.has_tree-in-Some.ensures,
       c.if-has_tree-2.true,
       ← c.is_free.ensures,
       c.if-is_free.false,
@@ -48,7 +48,7 @@ pub returns-else-has_tree : goal.returns-else-has_tree
 unfolding lower_find
 returns-else-has_tree c =
     rw (
-      c.in-Any.is,
+      c.in-None.is,
       ← c.has_tree.ensures,
       c.if-has_tree.false,
     )
@@ -57,7 +57,7 @@ pub returns-else-has_tree-2 : goal.returns-else-has_tree-2
 unfolding lower_find
 returns-else-has_tree-2 c =
     rw (
-      c.in-Frame.is,
-      ← c.has_tree-in-Frame.ensures,
+      c.in-Some.is,
+      ← c.has_tree-in-Some.ensures,
       c.if-has_tree-2.false,
     )

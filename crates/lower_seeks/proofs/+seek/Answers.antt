@@ -38,11 +38,11 @@ returns-then-passed t c = search (rules, right-only)
 pub seek-requires-2 : goal.seek-requires-2
 seek-requires-2 t c = (search rules, (search rules, (search rules, (left-reached _ _ _ _ _ c.requires.0 c.requires.1.0 c.if-order-want.false c.if-order-eq6.false _ c.passed.ensures c.if-passed.false, half-left _ _ _ _ c.requires.1.0 c.if-order-want.false c.requires.1.1.1))))
 
-pub seek-requires-in-Nothing : goal.seek-requires-in-Nothing
-seek-requires-in-Nothing t c = (search rules, (search rules, (search rules, (right-reached _ _ _ c.requires.0 c.if-order-eq6.false c.requires.1.1.0, half-right _ _ _ _ c.requires.1.0 c.if-order-want.false c.requires.1.1.1))))
+pub seek-requires-in-None : goal.seek-requires-in-None
+seek-requires-in-None t c = (search rules, (search rules, (search rules, (right-reached _ _ _ c.requires.0 c.if-order-eq6.false c.requires.1.1.0, half-right _ _ _ _ c.requires.1.0 c.if-order-want.false c.requires.1.1.1))))
 
-pub returns-in-At : goal.returns-in-At
-returns-in-At t c = search (rules, from-left)
+pub returns-in-Some : goal.returns-in-Some
+returns-in-Some t c = search (rules, from-left)
 
-pub returns-in-Nothing : goal.returns-in-Nothing
-returns-in-Nothing t c = search (rules, from-right)
+pub returns-in-None : goal.returns-in-None
+returns-in-None t c = search (rules, from-right)

@@ -7,7 +7,7 @@ use Rattle.put_body.proofs.put_to.Goals as goal
 pub slot-j-requires : goal.slot-j-requires
 unfolding index_of
 slot-j-requires c =
-    let l = rw c.in-Local.is at c.requires.1 in
+    let l = rw c.in-Some.is at c.requires.1 in
     omega arith
 
 pub returns-then-put : goal.returns-then-put
@@ -15,17 +15,17 @@ returns-then-put c =
     λ b.
     to-local _ _ _ _ _ _
     c.size-n.ensures.0
-    c.in-Local.is
+    c.in-Some.is
     c.slot-j.ensures
-    c.put-in-Local.ensures
+    c.put-in-Some.ensures
     c.if-put.true
 
-pub returns-in-Nothing : goal.returns-in-Nothing
-returns-in-Nothing c =
+pub returns-in-None : goal.returns-in-None
+returns-in-None c =
     λ b.
     to-entry _ _ _ _ _ _
     c.size-n.ensures.0
-    c.in-Nothing.is
+    c.in-None.is
     c.put.ensures
 
 pub returns-else-put : goal.returns-else-put
@@ -33,8 +33,8 @@ returns-else-put c =
     λ b.
     past-local _ _ _ _ _ _
     c.size-n.ensures.0
-    c.in-Local.is
+    c.in-Some.is
     c.slot-j.ensures
-    c.put-in-Local.ensures
+    c.put-in-Some.ensures
     c.if-put.false
-    c.put-in-Local-2.ensures
+    c.put-in-Some-2.ensures

@@ -7,21 +7,21 @@ pub returns-then-i-locals_of : goal.returns-then-i-locals_of
 unfolding outcome_of number_of refuse_local
 returns-then-i-locals_of c =
     λ pairs. rw (
-      c.in-Local.is,
+      c.in-Some.is,
       ← c.locals_of.ensures.0,
       lt-ltb _ _ c.if-i-locals_of.true,
     )
 
-pub returns-in-Nothing : goal.returns-in-Nothing
+pub returns-in-None : goal.returns-in-None
 unfolding outcome_of number_of refuse_local
-returns-in-Nothing c =
-    λ pairs. rw c.in-Nothing.is
+returns-in-None c =
+    λ pairs. rw c.in-None.is
 
 pub returns-else-i-locals_of : goal.returns-else-i-locals_of
 unfolding outcome_of number_of refuse_local
 returns-else-i-locals_of c =
     λ pairs. rw (
-      c.in-Local.is,
+      c.in-Some.is,
       ← c.locals_of.ensures.0,
       le-ltb _ _ c.if-i-locals_of.false,
     )

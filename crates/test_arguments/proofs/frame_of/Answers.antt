@@ -2,12 +2,12 @@
 use Rattle.rules_calls.specs.Calls.{frame_of}
 use Rattle.test_arguments.proofs.frame_of.Goals as goal
 
-pub returns-in-Any : goal.returns-in-Any
+pub returns-in-None : goal.returns-in-None
 unfolding frame_of
-returns-in-Any c =
-    rw c.in-Any.is
+returns-in-None c =
+    rw c.in-None.is
 
-pub returns-in-Frame : goal.returns-in-Frame
+pub returns-in-Some : goal.returns-in-Some
 unfolding frame_of
-returns-in-Frame c =
-    rw c.in-Frame.is
+returns-in-Some c =
+    rw c.in-Some.is

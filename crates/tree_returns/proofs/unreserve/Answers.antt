@@ -2,16 +2,16 @@
 use Rattle.tree_returns.specs.Returned.{returned, took_back}
 use Rattle.tree_returns.proofs.unreserve.Goals as goal
 
-pub returns-in-Yes : goal.returns-in-Yes
+pub returns-in-Some : goal.returns-in-Some
 unfolding returned took_back
-returns-in-Yes c = rw (
+returns-in-Some c = rw (
   ← c.unreserve.ensures,
-  c.in-Yes.is,
+  c.in-Some.is,
 )
 
-pub returns-in-No : goal.returns-in-No
+pub returns-in-None : goal.returns-in-None
 unfolding returned took_back
-returns-in-No c = rw (
+returns-in-None c = rw (
   ← c.unreserve.ensures,
-  c.in-No.is,
+  c.in-None.is,
 )

@@ -2,22 +2,22 @@
 use Rattle.rules.specs.Entries.{entry_unreserve, keep_took}
 use Rattle.tree_words.proofs.unreserve.Goals as goal
 
-pub returns-in-No : goal.returns-in-No
+pub returns-in-None : goal.returns-in-None
 unfolding entry_unreserve keep_took
-returns-in-No c =
+returns-in-None c =
     rw (
       ← c.load-old.ensures.0,
       ← c.unreserve.ensures,
-      c.in-No.is,
+      c.in-None.is,
     )
 
-pub returns-in-Yes : goal.returns-in-Yes
+pub returns-in-Some : goal.returns-in-Some
 unfolding entry_unreserve keep_took
-returns-in-Yes c =
+returns-in-Some c =
     rw (
       ← c.load-old.ensures.0,
       ← c.unreserve.ensures,
-      c.in-Yes.is,
+      c.in-Some.is,
       ← c.tree_word.ensures,
       ← c.store.ensures,
     )
