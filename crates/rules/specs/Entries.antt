@@ -39,9 +39,9 @@ steal_of c t k n = pick t.reserved None (pick (ltb t.free n) None (steal_kind t 
 -- Match or Demote leaves (0, reserved, requested class) and yields the old free; Steal subtracts and keeps the class
 unfoldable pub reserve_kind : Tree → ℕ → ℕ → Kind → Option Taken
 reserve_kind t k n Invalid = None
-reserve_kind t k n Steal = Taken.Part (entry (t.free - n) false t.class)
-reserve_kind t k n Demote = Taken.Whole (entry 0 true k) t.free
-reserve_kind t k n (Match r) = Taken.Whole (entry 0 true k) t.free
+reserve_kind t k n Steal = Some (Taken.Part (entry (t.free - n) false t.class))
+reserve_kind t k n Demote = Some (Taken.Whole (entry 0 true k) t.free)
+reserve_kind t k n (Match r) = Some (Taken.Whole (entry 0 true k) t.free)
 
 -- reserve or steal: same test
 unfoldable pub reserve_of : Config → Tree → ℕ → ℕ → Option Taken

@@ -57,7 +57,8 @@ pub fn unreserve(
     requires { (h.default < 8) × ((class < 8) × (n < 2 ^ 32)) }
     ensures { out result trees.new ≡ entry_unreserve (config h table.now) trees.old t class n }
 {
-    let whole = word_entry::unreserve(h, table, load(trees, t), class, n)?;
+    let old = load(trees, t);
+    let whole = word_entry::unreserve(h, table, old, class, n)?;
     store(trees, t, word_fields::tree_word(whole));
     Some(whole)
 }
@@ -77,7 +78,8 @@ pub fn steal(table: &[u32; 64], trees: &mut [u32], t: usize, class: usize, n: us
     requires { class < 8 }
     ensures { (h : Header) → out result trees.new ≡ entry_steal (config h table.now) trees.old t class n }
 {
-    let left = word_entry_takes::steal(table, load(trees, t), class, n)?;
+    let old = load(trees, t);
+    let left = word_entry_takes::steal(table, old, class, n)?;
     store(trees, t, word_fields::tree_word(left));
     Some(left)
 }
@@ -93,11 +95,12 @@ pub fn reserve_or_steal(
     requires { class < 8 }
     ensures { (h : Header) → out result trees.new ≡ entry_reserve (config h table.now) trees.old t class n }
 {
-    let taken = word_entry_takes::reserve_or_steal(table, load(trees, t), class, n)?;
-    let left = match taken {
+    let old = load(trees, t);
+    let taken = word_entry_takes::reserve_or_steal(table, old, class, n)?;
+    let new = match taken {
         Taken::Part(part) => part,
         Taken::Whole(reserved, _) => reserved,
     };
-    store(trees, t, word_fields::tree_word(left));
+    store(trees, t, word_fields::tree_word(new));
     Some(taken)
 }
