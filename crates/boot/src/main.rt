@@ -13,7 +13,7 @@ ghost use Rattle.boot_board.specs.Board.{Ready};
 use boot_patterns::Pattern;
 use boot_shows::Held;
 use rules::Header;
-use rules_calls::Outcome;
+use rules_calls::Refusal;
 
 // The figures of the store.
 fn figures<'a>(
@@ -86,7 +86,7 @@ fn start(
     trees: &mut [u32],
     locals: &mut [u64],
     bits: &mut [u64],
-) -> Outcome
+) -> Result<(), Refusal>
     requires { Ready (config h table.now) trees.old locals.old bits.old }
     ensures { outcome_of result ≡ 0 }
 {
@@ -101,8 +101,8 @@ fn boot(h: Header, table: &[u32; 64], trees: &mut [u32], locals: &mut [u64], bit
     let started = start(h, table, trees, locals, bits);
     boot_says::outcome(b"start", started);
     match started {
-        Outcome::Done => serve(h, table, trees, locals, bits),
-        Outcome::Refused(_) => (),
+        Ok(()) => serve(h, table, trees, locals, bits),
+        Err(_) => (),
     }
 }
 

@@ -3,7 +3,7 @@
 ghost use Rattle.std.specs.Prelude.{◌<◌};
 
 use rules::{Header, Request};
-use rules_calls::{Granted, Reply};
+use rules_calls::Reply;
 
 // The frame that the get names: the one past the last, one that is no multiple of 2, one that is held, or none.
 fn name(frames: usize, n: usize) -> Option<usize> {
@@ -51,10 +51,9 @@ fn request(n: usize) -> Request {
 
 // The number that a get answered.
 fn number(reply: Reply) -> usize {
-    let granted = reply.granted;
-    match granted {
-        Granted::Done { frame: _, class: _ } => 0,
-        Granted::Refused(x) => c_numbers::refusal_number(x),
+    match reply.granted {
+        Ok(_) => 0,
+        Err(x) => c_numbers::refusal_number(x),
     }
 }
 
@@ -92,10 +91,10 @@ fn seven_rows<'a>(
     locals: &'a [u64],
     bits: &'a [u64],
 ) -> usize {
-    let report = stats_lent::report(h, table, trees, locals, bits, 7);
-    let totals = report.totals;
-    let outcome = totals.outcome;
-    c_numbers::number(outcome)
+    match stats_lent::report(h, table, trees, locals, bits, 7) {
+        Ok(_) => 0,
+        Err(x) => c_numbers::refusal_number(x),
+    }
 }
 
 // The number that the call to be refused with n answers.

@@ -2,7 +2,7 @@
 #![tactic(auto)]
 
 use boot_patterns::Pattern;
-use rules_calls::{Granted, Outcome, Reply, Tally};
+use rules_calls::{Granted, Refusal, Reply, Tally};
 use stats_told::Stats;
 use text_prints::Program;
 
@@ -89,21 +89,20 @@ fn done(frame: usize, class: usize) {
 // The answer to a get.
 pub fn got(p: Pattern, order: usize, reply: Reply) {
     block(b"get ", p, order);
-    let granted = reply.granted;
-    match granted {
-        Granted::Done { frame, class } => done(frame, class),
-        Granted::Refused(x) => ended(c_numbers::refusal_number(x)),
+    match reply.granted {
+        Ok(Granted { frame, class }) => done(frame, class),
+        Err(x) => ended(c_numbers::refusal_number(x)),
     }
 }
 
 // The answer to a put.
-pub fn gave(p: Pattern, order: usize, outcome: Outcome) {
+pub fn gave(p: Pattern, order: usize, outcome: Result<(), Refusal>) {
     block(b"put ", p, order);
     ended(c_numbers::number(outcome));
 }
 
 // The answer to a start or a drain.
-pub fn outcome(call: &[u8], outcome: Outcome) {
+pub fn outcome(call: &[u8], outcome: Result<(), Refusal>) {
     say(call);
     answered(c_numbers::number(outcome));
 }
@@ -169,15 +168,15 @@ fn all_free(free: usize, frames: usize) {
 }
 
 // The answer to statistics on a board of so many frames, with the rows of its two classes.
-pub fn figures(frames: usize, report: Stats) {
-    let t = report.totals;
-    let o = t.outcome;
-    outcome(b"statistics", o);
-    if report.done {
-        let rows = report.rows;
-        totals(t.free, t.trees);
-        row(0, rows.r0);
-        row(1, rows.r1);
-        all_free(t.free, frames);
+pub fn figures(frames: usize, report: Result<Stats, Refusal>) {
+    match report {
+        Ok(Stats { totals: t, rows }) => {
+            outcome(b"statistics", Ok(()));
+            totals(t.free, t.trees);
+            row(0, rows[0]);
+            row(1, rows[1]);
+            all_free(t.free, frames);
+        }
+        Err(x) => outcome(b"statistics", Err(x)),
     }
 }

@@ -40,8 +40,7 @@ fn take(
         let q = boot_patterns::request(p, order);
         let reply = get::get(h, table, trees, locals, bits, None, q);
         boot_says::got(p, order, reply);
-        let granted = reply.granted;
-        let Granted::Done { frame, class: _ } = granted else {
+        let Ok(Granted { frame, .. }) = reply.granted else {
             return Held {
                 whole: false,
                 frames: frames,

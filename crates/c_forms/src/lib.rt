@@ -6,7 +6,7 @@ ghost use Rattle.c_forms.specs.Args.{name_of, given_of, asking};
 ghost use Rattle.c_forms.specs.Summary.{summary_of};
 
 use rules::Request;
-use rules_calls::Totals;
+use rules_calls::{Refusal, Totals};
 
 // What statistics answer beside the lent rows: the number, total free, free trees.
 #[repr(C)]
@@ -21,20 +21,14 @@ pub struct Summary {
 pub fn name_of(named: bool, frame: usize) -> Option<usize>
     ensures { result ≡ name_of named frame }
 {
-    if named {
-        return Some(frame);
-    }
-    None
+    named.then_some(frame)
 }
 
 // The local that a call gives, if it gives one.
 fn given_of(given: bool, local: usize) -> Option<usize>
     ensures { result ≡ given_of given local }
 {
-    if given {
-        return Some(local);
-    }
-    None
+    given.then_some(local)
 }
 
 // What a get or a put asks for.
@@ -42,20 +36,26 @@ pub fn ask(order: usize, class: usize, given: bool, local: usize) -> Request
     ensures { result ≡ asking order class given local }
 {
     Request {
-        order: order,
-        class: class,
+        order,
+        class,
         local: given_of(given, local),
     }
 }
 
 // What statistics answer, in numbers.
-pub fn summed(totals: Totals) -> Summary
+pub fn summed(totals: Result<Totals, Refusal>) -> Summary
     ensures { result ≡ summary_of totals }
 {
-    let outcome = totals.outcome;
-    Summary {
-        number: c_numbers::number(outcome),
-        free: totals.free,
-        trees: totals.trees,
+    match totals {
+        Ok(Totals { free, trees }) => Summary {
+            number: 0,
+            free,
+            trees,
+        },
+        Err(x) => Summary {
+            number: c_numbers::refusal_number(x),
+            free: 0,
+            trees: 0,
+        },
     }
 }

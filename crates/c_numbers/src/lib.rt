@@ -5,7 +5,7 @@ ghost use Rattle.std.specs.Prelude.{◌≡◌, List, ℕ};
 ghost use Rattle.rules_calls.specs.State.{st};
 ghost use Rattle.rules_calls.specs.Calls.{number_of, outcome_of, telling, told_get};
 
-use rules_calls::{Granted, Outcome, Refusal, Reply};
+use rules_calls::{Granted, Refusal, Reply};
 
 // The number of a refusal.
 pub fn refusal_number(x: Refusal) -> usize
@@ -27,12 +27,12 @@ pub fn refusal_number(x: Refusal) -> usize
 }
 
 // The number of an outcome.
-pub fn number(o: Outcome) -> usize
+pub fn number(o: Result<(), Refusal>) -> usize
     ensures { result ≡ outcome_of o }
 {
     match o {
-        Outcome::Done => 0,
-        Outcome::Refused(x) => refusal_number(x),
+        Ok(()) => 0,
+        Err(x) => refusal_number(x),
     }
 }
 
@@ -51,16 +51,15 @@ pub struct Answer {
 pub fn answered(r: Reply) -> Answer
     ensures { (t l b : List ℕ) → telling result.number result.frame result.class (st t l b result.looks result.tries) ≡ told_get r t l b }
 {
-    let granted = r.granted;
-    match granted {
-        Granted::Done { frame, class } => Answer {
+    match r.granted {
+        Ok(Granted { frame, class }) => Answer {
             number: 0,
-            frame: frame,
-            class: class,
+            frame,
+            class,
             looks: r.looks,
             tries: r.tries,
         },
-        Granted::Refused(x) => Answer {
+        Err(x) => Answer {
             number: refusal_number(x),
             frame: 0,
             class: 0,

@@ -4,7 +4,7 @@
 ghost use Rattle.rules_calls.specs.Promises.{words, DrainPromise};
 
 use rules::Header;
-use rules_calls::{Outcome, Refusal};
+use rules_calls::Refusal;
 
 // Every reservation is returned.
 pub fn drain(
@@ -13,13 +13,12 @@ pub fn drain(
     trees: &mut [u32],
     locals: &mut [u64],
     bits: &mut [u64],
-) -> Outcome
+) -> Result<(), Refusal>
     ensures { DrainPromise h table.now (words trees.old locals.old bits.old)
         result (words trees.new locals.new bits.new) }
 {
-    if test_state::stands(h, table, trees, locals, bits) {
-        drain_body::drain_body(h, table, trees, locals)
-    } else {
-        Outcome::Refused(Refusal::Broken)
+    if !test_state::stands(h, table, trees, locals, bits) {
+        return Err(Refusal::Broken);
     }
+    drain_body::drain_body(h, table, trees, locals)
 }

@@ -8,7 +8,7 @@ ghost use Rattle.rules_calls.specs.Calls.{fresh, told, drain_locals, drain_class
 ghost use Rattle.drain_body.specs.Loops.{drain_one};
 
 use rules::Header;
-use rules_calls::{Outcome, Refusal};
+use rules_calls::Refusal;
 
 // The local in a slot of the lent words becomes absent, and its reservation, if it had one, is returned. False: the return is stuck.
 fn drain_local(
@@ -50,15 +50,15 @@ fn drain_class(
 }
 
 // A drain: the classes in turn. Done, or Stuck as the step before left the words; whatever the bitmap is, it stays.
-pub fn drain_body(h: Header, table: &[u32; 64], trees: &mut [u32], locals: &mut [u64]) -> Outcome
+pub fn drain_body(h: Header, table: &[u32; 64], trees: &mut [u32], locals: &mut [u64]) -> Result<(), Refusal>
     requires { h.default < 8 }
     ensures { (b : List ℕ) → told result trees.new locals.new b
         ≡ close_drain (drain_classes 8 (config h table.now) 0 (fresh trees.old locals.old b)) }
 {
     for k in 0..8 {
         if !drain_class(h, table, trees, locals, k) {
-            return Outcome::Refused(Refusal::Stuck);
+            return Err(Refusal::Stuck);
         }
     }
-    Outcome::Done
+    Ok(())
 }

@@ -4,7 +4,7 @@
 ghost use Rattle.rules_calls.specs.Promises.{words, GetPromise};
 
 use rules::{Header, Request};
-use rules_calls::{Outcome, Refusal, Reply};
+use rules_calls::{Refusal, Reply};
 
 // A get, of the named frame or of any.
 pub fn get(
@@ -19,14 +19,13 @@ pub fn get(
     ensures { GetPromise h table.now name q (words trees.old locals.old bits.old)
         result (words trees.new locals.new bits.new) }
 {
-    if test_state::stands(h, table, trees, locals, bits) {
-        match test_arguments::check(h, q, test_arguments::frame_of(name)) {
-            Outcome::Done => get_answer::reply(get_routes::routes(
-                h, table, trees, locals, bits, q, name,
-            )),
-            Outcome::Refused(x) => get_answer::refused(x),
-        }
-    } else {
-        get_answer::refused(Refusal::Broken)
+    if !test_state::stands(h, table, trees, locals, bits) {
+        return get_answer::refused(Refusal::Broken);
     }
+    if let Err(x) = test_arguments::check(h, q, test_arguments::frame_of(name)) {
+        return get_answer::refused(x);
+    }
+    get_answer::reply(get_routes::routes(
+        h, table, trees, locals, bits, q, name,
+    ))
 }

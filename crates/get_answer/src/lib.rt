@@ -1,8 +1,7 @@
 // How a get is answered.
 #![tactic(auto)]
 
-ghost use Rattle.std.specs.Prelude.{◌≡◌, List, ℕ};
-ghost use Rattle.rules_calls.specs.declared.Granted.TheVariants as Granted;
+ghost use Rattle.std.specs.Prelude.{◌≡◌, List, ℕ, Err};
 ghost use Rattle.rules_calls.specs.State.{ended};
 ghost use Rattle.rules_calls.specs.Calls.{told_get, close};
 
@@ -10,10 +9,10 @@ use rules_calls::{Got, Granted, Refusal, Reply, Routed};
 
 // A get refused before its routes: no frame, no class, no counts.
 pub fn refused(x: Refusal) -> Reply
-    ensures { result ≡ record { granted = Granted.Refused x; looks = 0; tries = 0 } }
+    ensures { result ≡ record { granted = Err x; looks = 0; tries = 0 } }
 {
     Reply {
-        granted: Granted::Refused(x),
+        granted: Err(x),
         looks: 0,
         tries: 0,
     }
@@ -23,30 +22,14 @@ pub fn refused(x: Refusal) -> Reply
 pub fn reply(r: Routed) -> Reply
     ensures { (t l b : List ℕ) → told_get result t l b ≡ close (ended r t l b) }
 {
-    let got = r.got;
-    match got {
-        Got::Done { frame, class } => Reply {
-            granted: Granted::Done {
-                frame: frame,
-                class: class,
-            },
-            looks: r.looks,
-            tries: r.tries,
-        },
-        Got::Missed => Reply {
-            granted: Granted::Refused(Refusal::Memory),
-            looks: r.looks,
-            tries: r.tries,
-        },
-        Got::MissedAt(_) => Reply {
-            granted: Granted::Refused(Refusal::Memory),
-            looks: r.looks,
-            tries: r.tries,
-        },
-        Got::Stuck => Reply {
-            granted: Granted::Refused(Refusal::Stuck),
-            looks: r.looks,
-            tries: r.tries,
-        },
+    let granted = match r.got {
+        Got::Done { frame, class } => Ok(Granted { frame, class }),
+        Got::Missed | Got::MissedAt(_) => Err(Refusal::Memory),
+        Got::Stuck => Err(Refusal::Stuck),
+    };
+    Reply {
+        granted,
+        looks: r.looks,
+        tries: r.tries,
     }
 }

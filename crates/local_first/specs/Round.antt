@@ -1,5 +1,5 @@
 -- Laws of the loop over the locals of a class, from the given index round. z is the order of a tree. Assumes nothing.
-use Rattle.std.specs.Prelude.{◌≡◌, Bool, true, List, ℕ, ◌+◌, ◌%◌, ◌<◌, ◌≤◌, eqb, Option, None}
+use Rattle.std.specs.Prelude.{◌≡◌, Bool, true, List, ℕ, ◌+◌, ◌%◌, ◌<◌, ◌≤◌, eqb, Option, None, Some}
 use Rattle.std.proofs.Common.{sym, ap, ◌∙◌, add-zero, add_assoc, mod-eq_of_lt, eq-or-lt_of_le, eq-eqb, ne_eqb}
 use Rattle.std.proofs.Math.Logic.{⊎_elim}
 use Rattle.std.proofs.Math.Nat.{mod-lt, mod_self, mod-add-mod}

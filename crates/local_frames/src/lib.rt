@@ -1,7 +1,7 @@
 // Frames leave a local of the lent words, or come to it. Total: a local that is not there reads as absent, and a store to it does nothing.
 #![tactic(auto)]
 
-ghost use Rattle.std.specs.Prelude.{◌≡◌, true, ◌^◌, ◌<◌};
+ghost use Rattle.std.specs.Prelude.{◌≡◌, true, ◌^◌, ◌<◌, ℕ, Option};
 ghost use Rattle.rules.specs.Base.{out};
 ghost use Rattle.rules.specs.Words.{local_at};
 ghost use Rattle.rules.specs.Locals.{local_take, local_put, has_enough};

@@ -61,9 +61,8 @@ fn payer_in(
 {
     for d in i..8 {
         let k = (class + d) % 8;
-        let payer = payer_at(h, table, locals, class, from, name, n, demote, k);
-        if payer.is_some() {
-            return payer;
+        if let Some(payer) = payer_at(h, table, locals, class, from, name, n, demote, k) {
+            return Some(payer);
         }
     }
     None

@@ -4,7 +4,7 @@
 ghost use Rattle.rules_calls.specs.Promises.{words, PutPromise};
 
 use rules::{Header, Request};
-use rules_calls::{Outcome, Refusal};
+use rules_calls::Refusal;
 
 // A put of the block at a frame.
 pub fn put(
@@ -15,16 +15,13 @@ pub fn put(
     bits: &mut [u64],
     frame: usize,
     q: Request,
-) -> Outcome
+) -> Result<(), Refusal>
     ensures { PutPromise h table.now frame q (words trees.old locals.old bits.old)
         result (words trees.new locals.new bits.new) }
 {
-    if test_state::stands(h, table, trees, locals, bits) {
-        match test_arguments::check(h, q, frame) {
-            Outcome::Done => put_body::put_body(h, table, trees, locals, bits, q, frame),
-            Outcome::Refused(x) => Outcome::Refused(x),
-        }
-    } else {
-        Outcome::Refused(Refusal::Broken)
+    if !test_state::stands(h, table, trees, locals, bits) {
+        return Err(Refusal::Broken);
     }
+    test_arguments::check(h, q, frame)?;
+    put_body::put_body(h, table, trees, locals, bits, q, frame)
 }

@@ -9,7 +9,7 @@ ghost use Rattle.test_fits.specs.Fits.{Fits};
 ghost use Rattle.rules.specs.Lower.{lower_put};
 
 use rules::{Header, Request};
-use rules_calls::{Outcome, Refusal};
+use rules_calls::Refusal;
 
 // The frames of a put go to the given local if it holds their tree, else to the tree's entry.
 pub fn put_to(
@@ -50,7 +50,7 @@ pub fn put_body(
     bits: &mut [u64],
     q: Request,
     frame: usize,
-) -> Outcome
+) -> Result<(), Refusal>
     requires { Fits h q }
     ensures { told result trees.new locals.new bits.new
         ≡ on_given (lower_put 11 bits.old q.order frame) (fresh trees.old locals.old bits.old)
@@ -59,7 +59,7 @@ pub fn put_body(
     if lower::lower_put(bits, q.order, frame) {
         let local = q.local;
         put_to(h, table, trees, locals, q, frame, local);
-        return Outcome::Done;
+        return Ok(());
     }
-    Outcome::Refused(Refusal::NotHeld)
+    Err(Refusal::NotHeld)
 }

@@ -1,5 +1,5 @@
 -- 01, Numbered outcomes, and the exported calls start, get, put, drain. Assumes nothing.
-use Rattle.std.specs.Prelude.{Bool, true, false, List, ℕ, zero, suc, ◌+◌, ◌-◌, ◌*◌, ◌/◌, ◌%◌, ◌^◌, eqb, leb, ltb, Option, Some, None}
+use Rattle.std.specs.Prelude.{Bool, true, false, List, ℕ, zero, suc, ◌+◌, ◌-◌, ◌*◌, ◌/◌, ◌%◌, ◌^◌, eqb, leb, ltb, Option, Some, None, Result, Ok, Err, ⊤}
 use Rattle.rules.specs.Base.{pick, both, ifte, listed, Out, out}
 use Rattle.rules.specs.Words.{Config, tree_frames, tree_rows, trees_of, configured, locals_of, slot, local_count, tree_word, entry}
 use Rattle.rules.specs.Policy.{accepted}
@@ -8,7 +8,6 @@ use Rattle.rules.specs.Lower.{lower_put}
 use Rattle.rules.specs.declared.Request.{Request}
 use Rattle.rules_calls.specs.declared.Got.{Got}
 use Rattle.rules_calls.specs.declared.Refusal.{Refusal}
-use Rattle.rules_calls.specs.declared.Outcome.{Outcome}
 use Rattle.rules_calls.specs.declared.Granted.{Granted}
 use Rattle.rules_calls.specs.declared.Reply.{Reply}
 use Rattle.rules_calls.specs.State.{State, st, Way, size, with_bits, on_put, on_swap, put_entry, unreserve_local}
@@ -32,9 +31,9 @@ number_of Refusal.Config = 10
 number_of Refusal.Rows = 11
 
 -- the number of an outcome
-unfoldable pub outcome_of : Outcome → ℕ
-outcome_of Outcome.Done = 0
-outcome_of (Outcome.Refused x) = number_of x
+unfoldable pub outcome_of : Result ⊤ Refusal → ℕ
+outcome_of (Ok u) = 0
+outcome_of (Err x) = number_of x
 
 -- what a call tells: the number, the frame and class of a get that is Done, its counts; and the words that it leaves.
 -- A refused get names no frame and no class: zeros
@@ -57,16 +56,16 @@ abbrev pub fresh : List ℕ → List ℕ → List ℕ → State
 fresh t l b = st t l b 0 0
 
 -- the number and the values of each case of a get's answer
-unfoldable pub tell_get : Granted → State → Told
-tell_get (Granted.Done f k) s = telling 0 f k s
-tell_get (Granted.Refused x) s = telling (number_of x) 0 0 s
+unfoldable pub tell_get : Result Granted Refusal → State → Told
+tell_get (Ok g) s = telling 0 g.frame g.class s
+tell_get (Err x) s = telling (number_of x) 0 0 s
 
 -- what the code's get answers and leaves
 abbrev pub told_get : Reply → List ℕ → List ℕ → List ℕ → Told
 told_get r t l b = tell_get r.granted (st t l b r.looks r.tries)
 
 -- what the code's start, put and drain answer and leave
-abbrev pub told : Outcome → List ℕ → List ℕ → List ℕ → Told
+abbrev pub told : Result ⊤ Refusal → List ℕ → List ℕ → List ℕ → Told
 told r t l b = telling (outcome_of r) 0 0 (fresh t l b)
 
 -- ---- refusals 2 to 6, tried in that order; 0 if none is given

@@ -1,11 +1,12 @@
 -- 01, Statistics: eight tally rows, total free, free trees. Assumes nothing.
-use Rattle.std.specs.Prelude.{List, [], ◌∷◌, ℕ, zero, suc, ◌+◌, ◌-◌, ◌*◌, ◌/◌, eqb, length}
+use Rattle.std.specs.Prelude.{List, [], ◌∷◌, ℕ, zero, suc, ◌+◌, ◌-◌, ◌*◌, ◌/◌, eqb, length, Result, Ok, Err}
 use Rattle.rules.specs.Base.{pick, ifte, sum}
 use Rattle.rules.specs.Words.{Config, tree_frames, trees_of, locals_of, slot, local_count, entry_at, local_at}
 use Rattle.rules_calls.specs.declared.Tally.{Tally}
 use Rattle.rules_calls.specs.declared.Totals.{Totals}
 use Rattle.rules_calls.specs.Standing.{standing, tree_on}
-use Rattle.rules_calls.specs.Calls.{outcome_of}
+use Rattle.rules_calls.specs.declared.Refusal.{Refusal}
+use Rattle.rules_calls.specs.Calls.{number_of}
 
 -- f summed over the trees whose entry has class k
 unfoldable pub over_class : Config → List ℕ → ℕ → (ℕ → ℕ) → ℕ
@@ -62,8 +63,9 @@ abbrev pub reporting : ℕ → ℕ → ℕ → List Tally → Report
 reporting n f t rows = record { number = n; free = f; trees = t; rows = rows }
 
 -- what the code's statistics answer and leave
-abbrev pub told_totals : Totals → List Tally → Report
-told_totals r rows = reporting (outcome_of r.outcome) r.free r.trees rows
+abbrev pub told_totals : Result Totals Refusal → List Tally → Report
+told_totals (Ok t) rows = reporting 0 t.free t.trees rows
+told_totals (Err x) rows = reporting (number_of x) 0 0 rows
 
 -- Broken, then Rows where the lent tally rows are not eight; a refused call returns zeros for both and leaves the rows
 unfoldable pub statistics : Config → List ℕ → List ℕ → List ℕ → List Tally → Report

@@ -42,24 +42,17 @@ pub enum Refusal {
     Rows,
 }
 
-// What a start, a put or a drain answers.
+// What a get that is done answers: the frame, and its class.
 #[derive(Clone, Copy)]
-pub enum Outcome {
-    Done,
-    Refused(Refusal),
+pub struct Granted {
+    pub frame: usize,
+    pub class: usize,
 }
 
-// What a get answers: a refused one names no frame and no class.
-#[derive(Clone, Copy)]
-pub enum Granted {
-    Done { frame: usize, class: usize },
-    Refused(Refusal),
-}
-
-// A get's answer, and its counts.
+// A get's answer, and its counts: a refused one names no frame and no class.
 #[derive(Clone, Copy)]
 pub struct Reply {
-    pub granted: Granted,
+    pub granted: Result<Granted, Refusal>,
     pub looks: usize,
     pub tries: usize,
 }
@@ -73,10 +66,9 @@ pub struct Tally {
     pub used: usize,
 }
 
-// What statistics answer: the outcome, total free, free trees.
+// What statistics that are done answer: total free, free trees.
 #[derive(Clone, Copy)]
 pub struct Totals {
-    pub outcome: Outcome,
     pub free: usize,
     pub trees: usize,
 }

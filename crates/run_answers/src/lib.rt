@@ -6,20 +6,19 @@ ghost use Rattle.text_bytes.specs.Text.{text, write};
 ghost use Rattle.run_answers.specs.GetText.{granted_text, reply_text};
 ghost use Rattle.run_answers.specs.OtherText.{outcome_text, row_text, rows_text, totals_text, stats_text, wrong_text};
 
-use rules_calls::{Granted, Outcome, Reply, Tally, Totals};
-use stats_rows::Rows;
+use rules_calls::{Granted, Refusal, Reply, Tally, Totals};
 use stats_told::Stats;
 
 // The frame and class of a get that is done, and no others.
-fn granted(out: &mut [u8], at: usize, g: Granted) -> usize
+fn granted(out: &mut [u8], at: usize, g: Result<Granted, Refusal>) -> usize
     ensures { text out.new result ≡ write (text out.old at) (granted_text g) }
 {
     match g {
-        Granted::Done { frame, class } => {
+        Ok(Granted { frame, class }) => {
             let to = text_bytes::put_number(out, at, b"0 Done frame ", frame as u64);
             text_bytes::put_number(out, to, b" class ", class as u64)
         }
-        Granted::Refused(x) => {
+        Err(x) => {
             let to = text_names::name(out, at, c_numbers::refusal_number(x));
             text_bytes::append(out, to, b" frame - class -")
         }
@@ -39,7 +38,7 @@ pub fn reply(out: &mut [u8], at: usize, given: Reply) -> usize
 }
 
 // The answer to a start, a put or a drain.
-pub fn outcome(out: &mut [u8], at: usize, call: &[u8], o: Outcome) -> usize
+pub fn outcome(out: &mut [u8], at: usize, call: &[u8], o: Result<(), Refusal>) -> usize
     ensures { text out.new result ≡ write (text out.old at) (outcome_text call.now o) }
 {
     let to = text_bytes::append(out, at, call);
@@ -58,43 +57,42 @@ fn row(out: &mut [u8], at: usize, class: u64, t: Tally) -> usize
     text_bytes::put_byte(out, to, b'\n')
 }
 
-// The eight rows.
-fn rows(out: &mut [u8], at: usize, all: Rows) -> usize
-    ensures { text out.new result ≡ write (text out.old at) (rows_text all) }
+// Rows, in the order of their classes.
+fn rows(out: &mut [u8], at: usize, rows: &[Tally]) -> usize
+    ensures { text out.new result ≡ write (text out.old at) (rows_text 0 rows.now) }
 {
-    let to = row(out, at, 0, all.r0);
-    let to = row(out, to, 1, all.r1);
-    let to = row(out, to, 2, all.r2);
-    let to = row(out, to, 3, all.r3);
-    let to = row(out, to, 4, all.r4);
-    let to = row(out, to, 5, all.r5);
-    let to = row(out, to, 6, all.r6);
-    row(out, to, 7, all.r7)
+    let mut to = at;
+    for (class, t) in rows.iter().enumerate() {
+        to = row(out, to, class as u64, *t);
+    }
+    to
 }
 
-// The line of the totals.
-fn totals(out: &mut [u8], at: usize, t: Totals) -> usize
-    ensures { text out.new result ≡ write (text out.old at) (totals_text t) }
+// The line of the number and the totals.
+fn totals(out: &mut [u8], at: usize, number: usize, t: Totals) -> usize
+    ensures { text out.new result ≡ write (text out.old at) (totals_text number t) }
 {
-    let o = t.outcome;
     let to = text_bytes::append(out, at, b"stats ");
-    let to = text_names::name(out, to, c_numbers::number(o));
+    let to = text_names::name(out, to, number);
     let to = text_bytes::put_number(out, to, b" free ", t.free as u64);
     let to = text_bytes::put_number(out, to, b" trees ", t.trees as u64);
     text_bytes::put_byte(out, to, b'\n')
 }
 
-// The answer to statistics: the rows follow where they are filled.
-pub fn stats(out: &mut [u8], at: usize, told: Stats) -> usize
+// The answer to statistics: the rows follow where the call is done; refused, it has zeros.
+pub fn stats(out: &mut [u8], at: usize, told: Result<Stats, Refusal>) -> usize
     ensures { text out.new result ≡ write (text out.old at) (stats_text told) }
 {
-    let t = told.totals;
-    let all = told.rows;
-    let to = totals(out, at, t);
-    if told.done {
-        return rows(out, to, all);
+    match told {
+        Ok(s) => {
+            let to = totals(out, at, 0, s.totals);
+            rows(out, to, &s.rows)
+        }
+        Err(x) => {
+            let none = Totals { free: 0, trees: 0 };
+            totals(out, at, c_numbers::refusal_number(x), none)
+        }
     }
-    to
 }
 
 // The answer to a line that is no command: its number.

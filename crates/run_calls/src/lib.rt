@@ -2,7 +2,7 @@
 #![tactic(auto)]
 
 use rules::Header;
-use rules_calls::{Outcome, Reply};
+use rules_calls::{Refusal, Reply};
 use run_commands::Call;
 use run_store::Setup;
 use stats_told::Stats;
@@ -10,11 +10,11 @@ use stats_told::Stats;
 // What a call answered.
 #[derive(Clone, Copy)]
 enum Answered {
-    Start(Outcome),
+    Start(Result<(), Refusal>),
     Get(Reply),
-    Put(Outcome),
-    Drain(Outcome),
-    Stats(Stats),
+    Put(Result<(), Refusal>),
+    Drain(Result<(), Refusal>),
+    Stats(Result<Stats, Refusal>),
 }
 
 // A call on the words lent to it.

@@ -116,10 +116,9 @@ fn class_lines(h: Header) {
 }
 
 // Whether the state stands, and the totals, on so many frames and trees.
-fn total_line(t: Totals, frames: usize, trees: usize) {
-    let o = t.outcome;
+fn total_line(number: usize, t: Totals, frames: usize, trees: usize) {
     text_prints::text(Program::Runner, b"state ");
-    text_prints::name(Program::Runner, c_numbers::number(o));
+    text_prints::name(Program::Runner, number);
     text_prints::form(
         Program::Runner,
         b": free frames % of %, whole free trees % of %\n",
@@ -135,9 +134,12 @@ fn totals<'a>(
     locals: &'a [u64],
     bits: &'a [u64],
 ) {
-    let told = stats_lent::report(h, table, trees, locals, bits, 8);
-    let t = told.totals;
-    total_line(t, h.frames, trees.len());
+    let none = Totals { free: 0, trees: 0 };
+    let (number, t) = match stats_lent::report(h, table, trees, locals, bits, 8) {
+        Ok(told) => (0, told.totals),
+        Err(x) => (c_numbers::refusal_number(x), none),
+    };
+    total_line(number, t, h.frames, trees.len());
 }
 
 // The header, and the signs of the map.

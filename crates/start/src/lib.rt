@@ -4,7 +4,7 @@
 ghost use Rattle.rules_calls.specs.Promises.{words, StartPromise};
 
 use rules::Header;
-use rules_calls::{Outcome, Refusal};
+use rules_calls::Refusal;
 
 // A start, all free or all held.
 pub fn start(
@@ -14,16 +14,16 @@ pub fn start(
     locals: &mut [u64],
     bits: &mut [u64],
     free: bool,
-) -> Outcome
+) -> Result<(), Refusal>
     ensures { StartPromise h table.now free (words trees.old locals.old bits.old)
         result (words trees.new locals.new bits.new) }
 {
-    if test_accept::accepts(h, table) {
-        if test_lengths::lengths_exact(h, trees, locals, bits) {
-            start_body::start_body(h, trees, locals, bits, free);
-            return Outcome::Done;
-        }
-        return Outcome::Refused(Refusal::Config);
+    if !test_accept::accepts(h, table) {
+        return Err(Refusal::Config);
     }
-    Outcome::Refused(Refusal::Config)
+    if !test_lengths::lengths_exact(h, trees, locals, bits) {
+        return Err(Refusal::Config);
+    }
+    start_body::start_body(h, trees, locals, bits, free);
+    Ok(())
 }

@@ -4,9 +4,9 @@
 ghost use Rattle.rules_calls.specs.Promises.{words, StatisticsPromise};
 
 use rules::Header;
-use rules_calls::{Tally, Totals};
+use rules_calls::{Refusal, Tally, Totals};
 
-// Statistics: one call, one test and eight stores.
+// Statistics: one call, one test and one copy.
 pub fn statistics<'a, 'b>(
     h: Header,
     table: &'a [u32; 64],
@@ -14,21 +14,11 @@ pub fn statistics<'a, 'b>(
     locals: &'a [u64],
     bits: &'a [u64],
     rows: &'b mut [Tally],
-) -> Totals
+) -> Result<Totals, Refusal>
     ensures { StatisticsPromise h table.now (words trees.now locals.now bits.now)
         rows.old result rows.new }
 {
-    let told = stats_told::tell(h, table, trees, locals, bits, rows.len());
-    if told.done {
-        rows[0] = told.rows.r0;
-        rows[1] = told.rows.r1;
-        rows[2] = told.rows.r2;
-        rows[3] = told.rows.r3;
-        rows[4] = told.rows.r4;
-        rows[5] = told.rows.r5;
-        rows[6] = told.rows.r6;
-        rows[7] = told.rows.r7;
-        return told.totals;
-    }
-    told.totals
+    let told = stats_told::tell(h, table, trees, locals, bits, rows.len())?;
+    rows.copy_from_slice(&told.rows);
+    Ok(told.totals)
 }

@@ -1,5 +1,5 @@
 -- Rows of zeros that are lent for a call: what the answer and the rows are by value, and that this is the report by value of crate `stats_told`. Assumes nothing.
-use Rattle.std.specs.Prelude.{◌≡◌, refl, Bool, List, ◌++◌, ℕ, ◌≤◌, ◌<◌, eqb, length, get_or, take, drop, replicate}
+use Rattle.std.specs.Prelude.{◌≡◌, refl, Bool, List, ◌++◌, ℕ, ◌≤◌, ◌<◌, eqb, length, get_or, take, drop, replicate, Result, Ok, Err, ⊤}
 use Rattle.std.proofs.Common.{sym, ap₂, ◌∙◌, ⊎_elim, arith, take-append-drop, length-take-le, take_all, ne_eqb}
 use Rattle.std.proofs.Math.Path.{ap}
 use Rattle.std.proofs.Math.Bool.{true, false}
@@ -7,7 +7,6 @@ use Rattle.rules.specs.Base.{ifte}
 use Rattle.rules.specs.Words.{config}
 use Rattle.rules.specs.declared.Header.{Header}
 use Rattle.rules_calls.specs.declared.Refusal.TheVariants as Refusal
-use Rattle.rules_calls.specs.declared.Outcome.{Outcome}
 use Rattle.rules_calls.specs.declared.Tally.{Tally}
 use Rattle.rules_calls.specs.declared.Totals.{Totals}
 use Rattle.rules_calls.specs.Calls.{outcome_of, number_of}
@@ -19,6 +18,7 @@ use Rattle.stats_rows.specs.Rows.{rows_of}
 use Rattle.stats_told.specs.declared.Stats.{Stats}
 use Rattle.stats_told.specs.Stats.{stats_of, refusing}
 use Rattle.thm_complete.specs.Complete.{statistics-complete}
+use Rattle.rules_calls.specs.declared.Refusal.{Refusal}
 
 -- a row of zeros
 abbrev pub zero_row : Tally
@@ -29,9 +29,9 @@ abbrev pub zeros : List Tally
 zeros = replicate 16 zero_row
 
 -- whether an outcome is Done
-unfoldable pub is_done : Outcome → Bool
-is_done Outcome.Done = true
-is_done (Outcome.Refused x) = false
+unfoldable pub is_done : Result ⊤ Refusal → Bool
+is_done (Ok u) = true
+is_done (Err x) = false
 
 -- the answer and the first eight rows by value
 unfoldable pub gathered : Totals → List Tally → Stats
@@ -65,7 +65,7 @@ module _ (h : Header) (pairs ts ls bs : List ℕ) (n : ℕ) (t : Totals) (rows :
   told-by : (s e : Bool) → standing (config h pairs) ts ls bs ≡ s → eqb n 8 ≡ e → gathered t (rows ++ drop n zeros) ≡ stats_of (config h pairs) ts ls bs n
   unfolding stats_of statistics ifte outcome_of number_of gathered is_done tallies
   told-by true true p q =
-      same (record { outcome = Outcome.Done; free = total_free (config h pairs) ts ls; trees = free_trees (config h pairs) ts ls }) (tallies (config h pairs) ts ls 0 8) (rw (p, lent-eight n ∙ q)) ∙ rw (p, q)
+      same (record { outcome = (Ok tt); free = total_free (config h pairs) ts ls; trees = free_trees (config h pairs) ts ls }) (tallies (config h pairs) ts ls 0 8) (rw (p, lent-eight n ∙ q)) ∙ rw (p, q)
   told-by true false p q = same (refusing Refusal.Rows).totals (take n zeros) (rw (p, lent-eight n ∙ q)) ∙ ap (gathered (refusing Refusal.Rows).totals) (take-append-drop n zeros) ∙ rw (p, q)
   told-by false e p q = same (refusing Refusal.Broken).totals (take n zeros) (rw p) ∙ ap (gathered (refusing Refusal.Broken).totals) (take-append-drop n zeros) ∙ rw p
 

@@ -3,8 +3,8 @@
 
 ghost use Rattle.std.specs.Prelude.{◌≡◌, List, ℕ, ◌^◌, ◌<◌, ◌≤◌, get_or};
 ghost use Rattle.rules.specs.Words.{config};
-ghost use Rattle.rules_calls.specs.Statistics.{local_free, tally};
-ghost use Rattle.stats_rows.specs.Rows.{rows_of, row_of};
+ghost use Rattle.rules_calls.specs.Statistics.{local_free, tallies};
+ghost use Rattle.stats_rows.specs.Rows.{row_of};
 
 use rules::Header;
 use rules_calls::Tally;
@@ -51,34 +51,21 @@ fn class_row(h: Header, locals: &[u64], e: Entries, reserved: [usize; 8], class:
     row(e, local_free(h, locals, class), reserved, class)
 }
 
-// The eight rows, one for each class.
-#[derive(Clone, Copy)]
-pub struct Rows {
-    pub r0: Tally,
-    pub r1: Tally,
-    pub r2: Tally,
-    pub r3: Tally,
-    pub r4: Tally,
-    pub r5: Tally,
-    pub r6: Tally,
-    pub r7: Tally,
-}
-
 // The rows of all classes.
-pub fn all_rows<'a>(h: Header, trees: &'a [u32], locals: &'a [u64]) -> Rows
+pub fn all_rows<'a>(h: Header, trees: &'a [u32], locals: &'a [u64]) -> [Tally; 8]
     requires { h.frames ≤ 2 ^ 21 }
-    ensures { (pairs : List ℕ) → result ≡ rows_of (tally (config h pairs) trees.now locals.now) }
+    ensures { (pairs : List ℕ) → result ≡ tallies (config h pairs) trees.now locals.now 0 8 }
 {
     let e = stats_by_class::entries_by_class(trees, word_header::tree_count(h.frames));
     let held = stats_by_class::reserved_by_class(trees, locals, word_header::local_count(h));
-    Rows {
-        r0: class_row(h, locals, e, held, 0),
-        r1: class_row(h, locals, e, held, 1),
-        r2: class_row(h, locals, e, held, 2),
-        r3: class_row(h, locals, e, held, 3),
-        r4: class_row(h, locals, e, held, 4),
-        r5: class_row(h, locals, e, held, 5),
-        r6: class_row(h, locals, e, held, 6),
-        r7: class_row(h, locals, e, held, 7),
-    }
+    [
+        class_row(h, locals, e, held, 0),
+        class_row(h, locals, e, held, 1),
+        class_row(h, locals, e, held, 2),
+        class_row(h, locals, e, held, 3),
+        class_row(h, locals, e, held, 4),
+        class_row(h, locals, e, held, 5),
+        class_row(h, locals, e, held, 6),
+        class_row(h, locals, e, held, 7),
+    ]
 }

@@ -1,63 +1,57 @@
--- Statistics by value: what the call answers and whether and how it fills the rows; and that this is the definition. Assumes nothing.
-use Rattle.std.specs.Prelude.{◌≡◌, refl, Bool, not, List, ℕ, eqb, length}
-use Rattle.std.proofs.Common.{sym, subst}
+-- Statistics by value: what the call answers, with the eight rows; and that this is the definition. Assumes nothing.
+use Rattle.std.specs.Prelude.{◌≡◌, refl, Bool, List, ℕ, eqb, length, Result, Ok, Err}
+use Rattle.std.proofs.Common.{subst, sym, ◌∙◌, arith}
 use Rattle.std.proofs.Math.Bool.{true, false}
 use Rattle.std.proofs.Math.Dec.{eqb→eq, T}
 use Rattle.rules.specs.Base.{ifte}
 use Rattle.rules.specs.Words.{Config}
 use Rattle.rules_calls.specs.declared.Refusal.{Refusal}
-use Rattle.rules_calls.specs.declared.Outcome.TheVariants as Outcome
 use Rattle.rules_calls.specs.declared.Tally.{Tally}
-use Rattle.rules_calls.specs.Calls.{outcome_of, number_of}
+use Rattle.rules_calls.specs.Calls.{number_of}
 use Rattle.rules_calls.specs.Standing.{standing}
-use Rattle.rules_calls.specs.Statistics.{tally, total_free, free_trees, told_totals, statistics}
-use Rattle.stats_rows.specs.Rows.{rows_of, row_list, rows-tallies}
+use Rattle.rules_calls.specs.Statistics.{tallies, total_free, free_trees, Report, reporting, told_totals, statistics}
 use Rattle.stats_told.specs.declared.Stats.{Stats}
 
--- a refusal: zeros, and rows that are not stored
-abbrev pub refusing : Refusal → Stats
-refusing x = record { done = false; totals = record { outcome = Outcome.Refused x; free = 0; trees = 0 }; rows = rows_of (λ _. record { free = 0; alloc = 0; used = 0 }) }
-
 -- Broken, then Rows where not eight rows are lent
-unfoldable pub stats_of : Config → List ℕ → List ℕ → List ℕ → ℕ → Stats
+unfoldable pub stats_of : Config → List ℕ → List ℕ → List ℕ → ℕ → Result Stats Refusal
 stats_of c ts ls bs n =
     ifte (standing c ts ls bs)
     (λ _. ifte (eqb n 8)
-    (λ _. record { done = true; totals = record { outcome = Outcome.Done; free = total_free c ts ls; trees = free_trees c ts ls }; rows = rows_of (tally c ts ls) })
-    (λ _. refusing Refusal.Rows))
-    (λ _. refusing Refusal.Broken)
+    (λ _. Ok (record { totals = record { free = total_free c ts ls; trees = free_trees c ts ls }; rows = tallies c ts ls 0 8 }))
+    (λ _. Err Refusal.Rows))
+    (λ _. Err Refusal.Broken)
+
+-- what is told of it where `rows` are lent
+abbrev report : Result Stats Refusal → List Tally → Report
+report (Ok s) rows = told_totals (Ok s.totals) s.rows
+report (Err x) rows = told_totals (Err x) rows
 
 module _ (c : Config) (ts ls bs : List ℕ) (rows : List Tally) where
   -- by how the tests come out
-  kept_by : (s e : Bool) → standing c ts ls bs ≡ s → eqb (length rows) 8 ≡ e → T (not (stats_of c ts ls bs (length rows)).done)
-      → told_totals (stats_of c ts ls bs (length rows)).totals rows ≡ statistics c ts ls bs rows
-  unfolding stats_of statistics ifte outcome_of number_of
-  kept_by true true p q f = absurd (rw (p, q) at f)
-  kept_by true false p q f = rw (p, q)
-  kept_by false e p q f = rw p
+  told-by : (s e : Bool) → standing c ts ls bs ≡ s → eqb (length rows) 8 ≡ e → report (stats_of c ts ls bs (length rows)) rows ≡ statistics c ts ls bs rows
+  unfolding stats_of statistics ifte number_of
+  told-by true true p q = rw (p, q)
+  told-by true false p q = rw (p, q)
+  told-by false e p q = rw p
 
-  -- where the report is not done, the rows are left
-  pub kept : T (not (stats_of c ts ls bs (length rows)).done) → told_totals (stats_of c ts ls bs (length rows)).totals rows ≡ statistics c ts ls bs rows
-  kept = kept_by _ _ refl refl
+  module _ {r : Result Stats Refusal} (of : r ≡ stats_of c ts ls bs (length rows)) where
+    told-is : report r rows ≡ statistics c ts ls bs rows
+    told-is = subst (λ (x : Result Stats Refusal). report x rows ≡ statistics c ts ls bs rows) (sym of) (told-by _ _ refl refl)
 
-  full_by : (s e : Bool) → standing c ts ls bs ≡ s → eqb (length rows) 8 ≡ e → T (stats_of c ts ls bs (length rows)).done → length rows ≡ 8
+    -- a refusal leaves the rows
+    pub left : {x : Refusal} → r ≡ Err x → told_totals (Err x) rows ≡ statistics c ts ls bs rows
+    left e = subst (λ (y : Result Stats Refusal). report y rows ≡ statistics c ts ls bs rows) e told-is
+
+    -- a call that is done fills them
+    pub filled : {s : Stats} → r ≡ Ok s → told_totals (Ok s.totals) s.rows ≡ statistics c ts ls bs rows
+    filled e = subst (λ (y : Result Stats Refusal). report y rows ≡ statistics c ts ls bs rows) e told-is
+
+  full-by : (s e : Bool) → standing c ts ls bs ≡ s → eqb (length rows) 8 ≡ e → {a : Stats} → Ok a ≡ stats_of c ts ls bs (length rows) → length rows ≡ 8
   unfolding stats_of ifte
-  full_by true true p q f = eqb→eq (length rows) 8 (subst T (sym q) tt)
-  full_by true false p q f = absurd (rw (p, q) at f)
-  full_by false e p q f = absurd (rw p at f)
+  full-by true true p q h = eqb→eq (length rows) 8 (subst T (sym q) tt)
+  full-by true false p q h = absurd (let d = rw (p, q) at h in let z : ◌≡◌ {A = ℕ} 0 1 = cc in omega arith)
+  full-by false e p q h = absurd (let d = rw p at h in let z : ◌≡◌ {A = ℕ} 0 1 = cc in omega arith)
 
-  -- where it is done, eight rows are lent
-  pub full : T (stats_of c ts ls bs (length rows)).done → length rows ≡ 8
-  full = full_by _ _ refl refl
-
-  filled-by : (s e : Bool) → standing c ts ls bs ≡ s → eqb (length rows) 8 ≡ e → T (stats_of c ts ls bs (length rows)).done
-      → told_totals (stats_of c ts ls bs (length rows)).totals (row_list (stats_of c ts ls bs (length rows)).rows) ≡ statistics c ts ls bs rows
-  unfolding stats_of statistics ifte outcome_of
-  filled-by true true p q f = rw (p, q, rows-tallies c ts ls)
-  filled-by true false p q f = absurd (rw (p, q) at f)
-  filled-by false e p q f = absurd (rw p at f)
-
-  -- and they are the rows of the classes
-  pub filled : T (stats_of c ts ls bs (length rows)).done
-      → told_totals (stats_of c ts ls bs (length rows)).totals (row_list (stats_of c ts ls bs (length rows)).rows) ≡ statistics c ts ls bs rows
-  filled = filled-by _ _ refl refl
+  -- so eight rows are lent
+  pub full : {r : Result Stats Refusal} {s : Stats} → r ≡ stats_of c ts ls bs (length rows) → r ≡ Ok s → length rows ≡ 8
+  full of e = full-by _ _ refl refl (sym e ∙ of)

@@ -1,49 +1,18 @@
-// Statistics by value: the answer, and whether and with what the lent rows are to be filled.
+// Statistics by value: the answer, and what the lent rows are to be filled with.
 #![tactic(auto)]
 
 ghost use Rattle.std.specs.Prelude.{◌≡◌};
 ghost use Rattle.rules.specs.Words.{config};
-ghost use Rattle.stats_told.specs.Stats.{stats_of, refusing};
+ghost use Rattle.stats_told.specs.Stats.{stats_of};
 
 use rules::Header;
-use rules_calls::{Outcome, Refusal, Tally, Totals};
-use stats_rows::Rows;
+use rules_calls::{Refusal, Tally, Totals};
 
-// What statistics tell, by value: whether the rows are to be filled, the answer, the rows.
+// What statistics that are done tell, by value: the totals, and the rows of all classes.
 #[derive(Clone, Copy)]
 pub struct Stats {
-    pub done: bool,
     pub totals: Totals,
-    pub rows: Rows,
-}
-
-// A refused call returns zeros, and fills no row.
-fn refused(x: Refusal) -> Stats
-    ensures { result ≡ refusing x }
-{
-    let zero = Tally {
-        free: 0,
-        alloc: 0,
-        used: 0,
-    };
-    Stats {
-        done: false,
-        totals: Totals {
-            outcome: Outcome::Refused(x),
-            free: 0,
-            trees: 0,
-        },
-        rows: Rows {
-            r0: zero,
-            r1: zero,
-            r2: zero,
-            r3: zero,
-            r4: zero,
-            r5: zero,
-            r6: zero,
-            r7: zero,
-        },
-    }
+    pub rows: [Tally; 8],
 }
 
 // Statistics by value, where n tally rows are lent: Broken, then Rows where they are not eight.
@@ -54,24 +23,16 @@ pub fn tell<'a>(
     locals: &'a [u64],
     bits: &'a [u64],
     n: usize,
-) -> Stats
+) -> Result<Stats, Refusal>
     ensures { result ≡ stats_of (config h table.now) trees.now locals.now bits.now n }
 {
-    if test_state::stands(h, table, trees, locals, bits) {
-        if n == 8 {
-            let whole = stats_totals::totals(h, trees, locals);
-            let rows = stats_rows::all_rows(h, trees, locals);
-            return Stats {
-                done: true,
-                totals: Totals {
-                    outcome: Outcome::Done,
-                    free: whole.free,
-                    trees: whole.trees,
-                },
-                rows: rows,
-            };
-        }
-        return refused(Refusal::Rows);
+    if !test_state::stands(h, table, trees, locals, bits) {
+        return Err(Refusal::Broken);
     }
-    refused(Refusal::Broken)
+    if n != 8 {
+        return Err(Refusal::Rows);
+    }
+    let totals = stats_totals::totals(h, trees, locals);
+    let rows = stats_rows::all_rows(h, trees, locals);
+    Ok(Stats { totals, rows })
 }

@@ -1,11 +1,10 @@
 -- How a refusal is told, that Done is none, and the three ways through the tests of a get and of a put. Assumes nothing.
-use Rattle.std.specs.Prelude.{◌≡◌, refl, Bool, true, false, ℕ}
+use Rattle.std.specs.Prelude.{◌≡◌, refl, Bool, true, false, ℕ, Result, Ok, Err, ⊤}
 use Rattle.std.proofs.Common.{sym, ap, ◌∙◌}
 use Rattle.rules.specs.Base.{ifte}
 use Rattle.rules.specs.Words.{Config}
 use Rattle.rules.specs.declared.Request.{Request}
 use Rattle.rules_calls.specs.declared.Refusal.{Refusal}
-use Rattle.rules_calls.specs.declared.Outcome.{Outcome}
 use Rattle.rules_calls.specs.State.{State}
 use Rattle.rules_calls.specs.Standing.{standing}
 use Rattle.rules_calls.specs.Calls.{Told, telling, number_of, outcome_of, refusal, unless, if_standing}
@@ -26,7 +25,7 @@ refusal-told Refusal.Config s next = refl
 refusal-told Refusal.Rows s next = refl
 
 -- what the argument tests answered
-pub done-checked : (r : Outcome) (n : ℕ) → outcome_of r ≡ n → r ≡ Outcome.Done → n ≡ 0
+pub done-checked : (r : Result ⊤ Refusal) (n : ℕ) → outcome_of r ≡ n → r ≡ Ok tt → n ≡ 0
 unfolding outcome_of
 done-checked r n e d = sym e ∙ ap outcome_of d
 
@@ -36,11 +35,11 @@ module _ (c : Config) (q : Request) (f : ℕ) (s : State) (next : State → Told
   unfolding if_standing ifte
   state-broken e = rw (← tested, e)
 
-  module _ (stands : b ≡ true) {o : Outcome} (checked : outcome_of o ≡ refusal c q f) where
-    pub argument-refused : {x : Refusal} → o ≡ Outcome.Refused x → telling (number_of x) 0 0 s ≡ if_standing c s (λ s1. unless (refusal c q f) s1 next)
+  module _ (stands : b ≡ true) {o : Result ⊤ Refusal} (checked : outcome_of o ≡ refusal c q f) where
+    pub argument-refused : {x : Refusal} → o ≡ Err x → telling (number_of x) 0 0 s ≡ if_standing c s (λ s1. unless (refusal c q f) s1 next)
     unfolding if_standing ifte outcome_of
     argument-refused e = rw (← tested, stands, ← checked, e, refusal-told _ s next)
 
-    pub tests-passed : {w : Told} → o ≡ Outcome.Done → w ≡ next s → w ≡ if_standing c s (λ s1. unless (refusal c q f) s1 next)
+    pub tests-passed : {w : Told} → o ≡ Ok tt → w ≡ next s → w ≡ if_standing c s (λ s1. unless (refusal c q f) s1 next)
     unfolding if_standing ifte unless outcome_of
     tests-passed e h = rw (← tested, stands, ← checked, e) h

@@ -6,56 +6,56 @@ ghost use Rattle.rules.specs.Words.{config};
 ghost use Rattle.rules_calls.specs.Calls.{outcome_of, refuse_local, refuse_class, refusal, frame_of};
 
 use rules::{Header, Request};
-use rules_calls::{Outcome, Refusal};
+use rules_calls::Refusal;
 
 // A local given has to be below its class's number.
-fn check_local(h: Header, class: usize, local: Option<usize>) -> Outcome
+fn check_local(h: Header, class: usize, local: Option<usize>) -> Result<(), Refusal>
     requires { class < 8 }
     ensures { (pairs : List ℕ) → outcome_of result ≡ refuse_local (config h pairs) class local }
 {
     match local {
-        None => Outcome::Done,
+        None => Ok(()),
         Some(i) => {
             if i < word_header::locals_of(h, class) {
-                return Outcome::Done;
+                return Ok(());
             }
-            Outcome::Refused(Refusal::Local)
+            Err(Refusal::Local)
         }
     }
 }
 
 // The class has to be one of 0 to 7, and configured.
-fn check_class(h: Header, q: Request) -> Outcome
+fn check_class(h: Header, q: Request) -> Result<(), Refusal>
     ensures { (pairs : List ℕ) → outcome_of result ≡ refuse_class (config h pairs) q }
 {
     if 7 < q.class {
-        return Outcome::Refused(Refusal::Class);
+        return Err(Refusal::Class);
     }
     if word_header::is_configured(h, q.class) {
         let local = q.local;
         return check_local(h, q.class, local);
     }
-    Outcome::Refused(Refusal::Class)
+    Err(Refusal::Class)
 }
 
 // The refusals 2 to 6, tried in that order. The sum of frame and 2^order is not formed, so that nothing wraps.
-pub fn check(h: Header, q: Request, frame: usize) -> Outcome
+pub fn check(h: Header, q: Request, frame: usize) -> Result<(), Refusal>
     ensures { (pairs : List ℕ) → outcome_of result ≡ refusal (config h pairs) q frame }
 {
     if 11 < q.order {
-        return Outcome::Refused(Refusal::Order);
+        return Err(Refusal::Order);
     }
     let n = word_sizes::size(q.order);
     if h.frames < n {
-        return Outcome::Refused(Refusal::Bounds);
+        return Err(Refusal::Bounds);
     }
     if h.frames - n < frame {
-        return Outcome::Refused(Refusal::Bounds);
+        return Err(Refusal::Bounds);
     }
     if frame % n == 0 {
         return check_class(h, q);
     }
-    Outcome::Refused(Refusal::Misaligned)
+    Err(Refusal::Misaligned)
 }
 
 // The frame that a get names, 0 if none.

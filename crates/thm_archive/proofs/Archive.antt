@@ -77,12 +77,12 @@ module _ (c : Config) (t l b : List ℕ) where
   unfolding start
   start-few free = ifte-ind Few (both (accepted c) (lengths_exact c t l b)) _ _ (λ _. omega arith) (λ _. omega arith)
 
-  statistics-few : (rows : List Tally) → (statistics c t l b rows).number ≤ 11
+  statistics-few : (rows : List Tally) → Zeros (statistics c t l b rows)
   unfolding statistics
   statistics-few rows =
-      ifte-ind (λ (x : Report). x.number ≤ 11) (standing c t l b) _ _
-      (λ _. ifte-ind (λ (x : Report). x.number ≤ 11) (eqb (length rows) 8) _ _ (λ _. omega arith) (λ _. omega arith))
-      (λ _. omega arith)
+      ifte-ind Zeros (standing c t l b) _ _
+      (λ _. ifte-ind Zeros (eqb (length rows) 8) _ _ (λ _. inl refl) (λ _. inr (omega arith, (refl, refl))))
+      (λ _. inr (omega arith, (refl, refl)))
 
 -- ---- a number that is told is that of its outcome
 outcome-back : (n : ℕ) → n ≤ 11 → outcome_of (outcome_from n) ≡ n
@@ -102,10 +102,12 @@ granted-back (suc n) f k s (inl z) = absurd (omega arith)
 granted-back (suc n) f k s (inr (h, (p, q))) =
     ap (λ (x : ℕ). telling x 0 0 s) (number-back (suc n) (omega arith) h) ∙ ap₂ (λ (x y : ℕ). telling (suc n) x y s) (sym p) (sym q)
 
-report-back : (r : Summary) (filled : List Tally) (x : Report) → x.number ≤ 11 → reporting r.number r.free r.trees filled ≡ x → told_totals (totals_from r) filled ≡ x
-report-back r filled x few P =
-    let h : r.number ≤ 11 = omega (arith, few, ap (λ (y : Report). y.number) P) in
-    ap (λ (n : ℕ). reporting n r.free r.trees filled) (outcome-back r.number h) ∙ P
+report-back : (n f t : ℕ) (filled : List Tally) (x : Report) → Zeros x → reporting n f t filled ≡ x → told_totals (totals_from n f t) filled ≡ x
+report-back zero f t filled x few P = P
+report-back (suc n) f t filled x (inl z) P = absurd (omega (arith, z, ap (λ (y : Report). y.number) P))
+report-back (suc n) f t filled x (inr (h, (p, q))) P =
+    ap (λ (m : ℕ). reporting m 0 0 filled) (number-back (suc n) (omega arith) (omega (arith, h, ap (λ (y : Report). y.number) P)))
+    ∙ ap₂ (λ (a b : ℕ). reporting (suc n) a b filled) (sym (ap (λ (y : Report). y.free) P ∙ p)) (sym (ap (λ (y : Report). y.trees) P ∙ q)) ∙ P
 
 module _ (h : Header) (pairs : List ℕ) where
   -- a call that satisfies its promise satisfies that of the function in Rattle
@@ -115,7 +117,7 @@ module _ (h : Header) (pairs : List ℕ) where
       (subst Plain (sym P) (get-plain (config h pairs) s.trees s.locals s.bits q name)) ∙ P
   promised (puts f q r) s e P = told_back r e _ (put-few (config h pairs) s.trees s.locals s.bits q f) P
   promised (drains r) s e P = told_back r e _ (drain-few (config h pairs) s.trees s.locals s.bits) P
-  promised (reports rows r filled) s e (P, d) = (report-back r filled _ (statistics-few (config h pairs) s.trees s.locals s.bits rows) P, d)
+  promised (reports rows r filled) s e (P, d) = (report-back r.number r.free r.trees filled _ (statistics-few (config h pairs) s.trees s.locals s.bits rows) P, d)
   promised (starts d table free t l b r) s e (P, A) = (
     told_back r (left_in t l b e) _ (start-few (config d table) (found_in t l b s).trees (found_in t l b s).locals (found_in t l b s).bits free) P,
     A,

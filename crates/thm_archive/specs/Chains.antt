@@ -1,8 +1,7 @@
 -- Demand 3 for the archive: chains of its calls, and the same chains with outcomes where the archive answers numbers. Assumes nothing.
-use Rattle.std.specs.Prelude.{◌≡◌, Bool, List, [], ◌∷◌, ℕ, zero, suc, Option}
+use Rattle.std.specs.Prelude.{◌≡◌, Bool, List, [], ◌∷◌, ℕ, zero, suc, Option, Result, Ok, Err, ⊤}
 use Rattle.rules.specs.declared.Header.{Header}
 use Rattle.rules.specs.declared.Request.{Request}
-use Rattle.rules_calls.specs.declared.Outcome.{Outcome}
 use Rattle.rules_calls.specs.declared.Granted.{Granted}
 use Rattle.rules_calls.specs.declared.Tally.{Tally}
 use Rattle.rules_calls.specs.declared.Totals.{Totals}
@@ -13,6 +12,7 @@ use Rattle.thm_sequence.specs.Demand as Demand
 use Rattle.c_numbers.specs.declared.Answer.{Answer}
 use Rattle.c_forms.specs.declared.Summary.{Summary}
 use Rattle.llfree_c.specs.Promises.{StartNumber, GetAnswer, PutNumber, DrainNumber, StatisticsAnswer}
+use Rattle.rules_calls.specs.declared.Refusal.{Refusal}
 
 -- ---- a chain of the archive's calls, each on the words as the call before left them
 
@@ -41,25 +41,26 @@ Calls h pairs (x ∷ xs) s e = (m : Words) × (Answered h pairs x s m × Calls h
 -- ---- numbers as outcomes
 
 -- 0 is Done, another number is that of a refusal
-abbrev pub outcome_from : ℕ → Outcome
-outcome_from zero = Outcome.Done
-outcome_from (suc n) = Outcome.Refused (refusal_of (suc n))
+abbrev pub outcome_from : ℕ → Result ⊤ Refusal
+outcome_from zero = Ok tt
+outcome_from (suc n) = Err (refusal_of (suc n))
 
 -- of a get, with its frame and class
-abbrev pub granted_from : ℕ → ℕ → ℕ → Granted
-granted_from zero f k = Granted.Done f k
-granted_from (suc n) f k = Granted.Refused (refusal_of (suc n))
+abbrev pub granted_from : ℕ → ℕ → ℕ → Result Granted Refusal
+granted_from zero f k = Ok (record { frame = f; class = k })
+granted_from (suc n) f k = Err (refusal_of (suc n))
 
 -- of statistics, with total free and free trees
-abbrev pub totals_from : Summary → Totals
-totals_from r = record { outcome = outcome_from r.number; free = r.free; trees = r.trees }
+abbrev pub totals_from : ℕ → ℕ → ℕ → Result Totals Refusal
+totals_from zero f t = Ok (record { free = f; trees = t })
+totals_from (suc n) f t = Err (refusal_of (suc n))
 
 -- the call as a step of the chains of crate `thm_sequence`
 abbrev pub step_of : Call → Step
 step_of (gets name q r) = Demand.gets name q (record { granted = granted_from r.number r.frame r.class; looks = r.looks; tries = r.tries })
 step_of (puts f q r) = Demand.puts f q (outcome_from r)
 step_of (drains r) = Demand.drains (outcome_from r)
-step_of (reports rows r filled) = Demand.reports rows (totals_from r) filled
+step_of (reports rows r filled) = Demand.reports rows (totals_from r.number r.free r.trees) filled
 step_of (starts h pairs free t l b r) = Demand.starts h pairs free t l b (outcome_from r)
 
 -- all of them

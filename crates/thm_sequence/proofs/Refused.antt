@@ -1,5 +1,5 @@
 -- A call that is not Done, Memory or Stuck leaves the words, whatever they are, and what else it is lent. Assumes nothing.
-use Rattle.std.specs.Prelude.{◌≡◌, refl, Bool, ◌≢◌, List, ℕ, ◌/◌, ◌^◌, eqb, length, Option}
+use Rattle.std.specs.Prelude.{◌≡◌, refl, Bool, ◌≢◌, List, ℕ, ◌/◌, ◌^◌, eqb, length, Option, Result, Err, ⊤}
 use Rattle.std.proofs.Common.{sym, ap, ◌∙◌, subst}
 use Rattle.std.proofs.Math.Bool.{true, false}
 use Rattle.rules.specs.Base.{pick, both, Out, out}
@@ -8,7 +8,6 @@ use Rattle.rules.specs.Policy.{accepted}
 use Rattle.rules.specs.Lower.{held_in, has_tree, mark, lower_put}
 use Rattle.rules.specs.declared.Header.{Header}
 use Rattle.rules.specs.declared.Request.{Request}
-use Rattle.rules_calls.specs.declared.Outcome.{Outcome}
 use Rattle.rules_calls.specs.declared.Granted.{Granted}
 use Rattle.rules_calls.specs.declared.Got.TheVariants as Got
 use Rattle.rules_calls.specs.State.{State, Way, st, with_bits}
@@ -20,9 +19,10 @@ use Rattle.rules_calls.specs.Statistics.{Report, statistics}
 use Rattle.rules_calls.specs.Promises.{Words, StartPromise}
 use Rattle.law_calls.specs.Steps.{ifte-ind}
 use Rattle.law_calls.specs.Answers.{unless-ind, standing-ind}
-use Rattle.thm_complete.specs.Complete.{same-words}
+use Rattle.thm_complete.specs.Complete.{same-words, told-rows}
 use Rattle.thm_sequence.specs.Demand.{Step, gets, puts, drains, reports, starts, Promised, number, number_got, found_in, left_in, LentLeft}
 use Rattle.thm_sequence.proofs.Lent.{state-stays, others-left}
+use Rattle.rules_calls.specs.declared.Refusal.{Refusal}
 
 -- what a call that is not Done, Memory or Stuck tells has the words t, l and b
 abbrev Left : List ℕ → List ℕ → List ℕ → Told → Type 0
@@ -74,22 +74,22 @@ module _ (c : Config) (t l b : List ℕ) where
   start_left all_free = ifte-ind (Left t l b) (both (accepted c) (lengths_exact c t l b)) _ _ (λ _ x y z. absurd (x refl)) (λ _ x y z. (refl, (refl, refl)))
 
 -- an answer and words that tell it
-told-left : (r : Outcome) (s e : Words) (d : Told) → told r e.trees e.locals e.bits ≡ d → Left s.trees s.locals s.bits d
+told-left : (r : Result ⊤ Refusal) (s e : Words) (d : Told) → told r e.trees e.locals e.bits ≡ d → Left s.trees s.locals s.bits d
     → outcome_of r ≢ 0 → outcome_of r ≢ 7 → outcome_of r ≢ 9 → e ≡ s
 told-left r s e d P h x y z =
     let u = subst (Left s.trees s.locals s.bits) (sym P) h x y z in
     same-words e s u.0 u.1.0 u.1.1
 
-got-left : (g : Granted) (s e : Words) (i k : ℕ) (d : Told) → tell_get g (st e.trees e.locals e.bits i k) ≡ d → Left s.trees s.locals s.bits d
+got-left : (g : Result Granted Refusal) (s e : Words) (i k : ℕ) (d : Told) → tell_get g (st e.trees e.locals e.bits i k) ≡ d → Left s.trees s.locals s.bits d
     → number_got g ≢ 0 → number_got g ≢ 7 → number_got g ≢ 9 → e ≡ s
 unfolding tell_get number_got
-got-left (Granted.Done f u) s e i k d P h x y z = absurd (x refl)
-got-left (Granted.Refused w) s e i k d P h x y z =
+got-left (Ok u) s e i k d P h x y z = absurd (x refl)
+got-left (Err w) s e i k d P h x y z =
     let u = subst (Left s.trees s.locals s.bits) (sym P) h x y z in
     same-words e s u.0 u.1.0 u.1.1
 
 -- a start leaves the words that it is lent
-start-kept : (d : Header) (table : List ℕ) (all_free : Bool) (s : Words) (r : Outcome) (e : Words) → StartPromise d table all_free s r e
+start-kept : (d : Header) (table : List ℕ) (all_free : Bool) (s : Words) (r : Result ⊤ Refusal) (e : Words) → StartPromise d table all_free s r e
     → outcome_of r ≢ 0 → outcome_of r ≢ 7 → outcome_of r ≢ 9 → e ≡ s
 start-kept d table all_free s r e P =
     told-left r s e (start (config d table) all_free s.trees s.locals s.bits) P (start_left (config d table) s.trees s.locals s.bits all_free)
@@ -120,5 +120,5 @@ lent-left h pairs (gets name q r) s e P x y z = tt
 lent-left h pairs (puts f q r) s e P x y z = tt
 lent-left h pairs (drains r) s e P x y z = tt
 lent-left h pairs (reports rows r filled) s e P x y z =
-    ap (λ (u : Report). u.rows) P.0 ∙ rows-as-lent (config h pairs) s.trees s.locals s.bits rows (λ n. x (ap (λ (u : Report). u.number) P.0 ∙ n))
+    sym (told-rows r filled) ∙ ap (λ (u : Report). u.rows) P.0 ∙ rows-as-lent (config h pairs) s.trees s.locals s.bits rows (λ n. x (ap (λ (u : Report). u.number) P.0 ∙ n))
 lent-left h pairs (starts d table all_free t l b r) s e P x y z = others-left t l b s e (start-kept d table all_free (found_in t l b s) r (left_in t l b e) P.0 x y z)

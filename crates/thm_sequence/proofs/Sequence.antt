@@ -1,5 +1,5 @@
 -- The theorems on chains of calls: demand 3, no call is Stuck, a call that is not Done, Memory or Stuck changes nothing. Assumes nothing.
-use Rattle.std.specs.Prelude.{◌≡◌, refl, Bool, ℕ, zero, suc, ◌+◌, ◌≤◌, eqb}
+use Rattle.std.specs.Prelude.{◌≡◌, refl, Bool, ℕ, zero, suc, ◌+◌, ◌≤◌, eqb, Result, ⊤}
 use Rattle.std.proofs.Common.{sym, ◌∙◌, arith}
 use Rattle.std.proofs.Math.Path.{ap, subst}
 use mathlib.Core.List.{List, [], ◌∷◌}
@@ -7,7 +7,6 @@ use Rattle.rules.specs.Base.{bit_of}
 use Rattle.rules.specs.Words.{Config, config}
 use Rattle.rules.specs.Lower.{bit, clear}
 use Rattle.rules.specs.declared.Header.{Header}
-use Rattle.rules_calls.specs.declared.Outcome.{Outcome}
 use Rattle.rules_calls.specs.Calls.{outcome_of}
 use Rattle.rules_calls.specs.Promises.{Words, StartPromise}
 use Rattle.law_rules.specs.Held.{bit_le}
@@ -19,6 +18,7 @@ use Rattle.thm_sequence.specs.Demand.{Step, gets, puts, drains, reports, starts,
 use Rattle.thm_sequence.proofs.Blocks.{reserved-is}
 use Rattle.thm_sequence.proofs.Refused.{step_left, lent-left}
 use Rattle.thm_sequence.proofs.Steps.{Agreed, get-step, put_step, drain-step, count-step, refused-start, start-step}
+use Rattle.rules_calls.specs.declared.Refusal.{Refusal}
 
 -- the whole chain, from words where the rules and the ledger agree
 pub record AllSteps (z : ℕ) (c : Config) (held : ℕ → Bool) (s : Words) (xs : List Step) (e : Words) : Type 0 where
@@ -86,7 +86,7 @@ module _ (h : Header) (pairs : List ℕ) where
       }
 
   -- after an accepted start
-  module _ (all_free : Bool) (s0 s : Words) (r : Outcome) (P : StartPromise h pairs all_free s0 r s) (z : outcome_of r ≡ 0) where
+  module _ (all_free : Bool) (s0 s : Words) (r : Result ⊤ Refusal) (P : StartPromise h pairs all_free s0 r s) (z : outcome_of r ≡ 0) where
     from_start : (xs : List Step) (e : Words) → NoRestart xs → Chain h pairs xs s e → AllSteps 11 (config h pairs) (held_at_start all_free h.frames) s xs e
     from_start xs e n C = all-steps (held_at_start all_free h.frames) s xs e (start-step (config h pairs) size-eleven all_free s0 r s P z).begins n C
 

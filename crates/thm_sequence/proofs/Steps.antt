@@ -1,5 +1,5 @@
 -- What one call does to the rules and to the ledger, where both agree: a record for each call. Assumes nothing.
-use Rattle.std.specs.Prelude.{◌≡◌, Bool, not, ◌≢◌, ◌⊎◌, eqb, length, Option}
+use Rattle.std.specs.Prelude.{◌≡◌, Bool, not, ◌≢◌, ◌⊎◌, eqb, length, Option, Result, Ok, Err, ⊤}
 use Rattle.std.proofs.Math.Path.{refl, sym, ap, subst}
 use Rattle.std.proofs.Common.{◌∙◌, ⊎_elim, arith, leb-true, leb-false}
 use Rattle.std.proofs.Math.Bool.{true, false}
@@ -13,7 +13,6 @@ use Rattle.rules.specs.Policy.{accepted}
 use Rattle.rules.specs.Lower.{bit, clear, mark}
 use Rattle.rules.specs.declared.Request.{Request}
 use Rattle.rules.specs.declared.Tree.{Tree}
-use Rattle.rules_calls.specs.declared.Outcome.{Outcome}
 use Rattle.rules_calls.specs.declared.Granted.{Granted}
 use Rattle.rules_calls.specs.declared.Tally.{Tally}
 use Rattle.rules_calls.specs.declared.Totals.{Totals}
@@ -37,6 +36,7 @@ use Rattle.thm_keeps.specs.Holders.{on_none}
 use Rattle.thm_keeps.specs.Standing.{kept_test}
 use Rattle.thm_sequence.specs.Demand.{number_got, frames_in, in_block, handed, gave_back, held_at_start, held_after_get, held_after_put, NotYetHeld, AllHeld, free_in}
 use Rattle.thm_sequence.proofs.Blocks.{free-frame, held-frame, take-agrees, give-agrees, take-counts, give-counts, in-block}
+use Rattle.rules_calls.specs.declared.Refusal.{Refusal}
 
 -- the rules stand, and the ledger holds what the bitmap holds
 pub record Agreed (c : Config) (held : ℕ → Bool) (s : Words) : Type 0 where
@@ -48,7 +48,7 @@ module _ (c : Config) (sz : Size c.tree_order) (held : ℕ → Bool) (s : Words)
   passes = kept_test c sz s.trees s.locals s.bits A.kept
 
   -- ---- get
-  pub record GetStep (q : Request) (g : Granted) (m : Words) : Type 0 where
+  pub record GetStep (q : Request) (g : Result Granted Refusal) (m : Words) : Type 0 where
     pub after : Agreed c (held_after_get held q.order g) m
     pub counts : (t : ℕ) → clear c.tree_order m.bits t + handed c.tree_order t q.order g ≡ clear c.tree_order s.bits t
     pub once : NotYetHeld held q.order g
@@ -63,13 +63,13 @@ module _ (c : Config) (sz : Size c.tree_order) (held : ℕ → Bool) (s : Words)
       go zero d = (refusal-checked c q (frame_of name) d).order
       go (suc n) d = absurd (omega (arith, e, ap (λ (x : Told). x.number) (get_refused c s.trees s.locals s.bits q name n passes d)))
 
-  pub get-step : (q : Request) (name : Option ℕ) (g : Granted) (m : Words) (i k : ℕ)
+  pub get-step : (q : Request) (name : Option ℕ) (g : Result Granted Refusal) (m : Words) (i k : ℕ)
       → tell_get g (st m.trees m.locals m.bits i k) ≡ get c q name s.trees s.locals s.bits → GetStep q g m
   unfolding tell_get number_got handed held_after_get
-  get-step q name (Granted.Done f u) m i k P =
-      let G : GetAny c q name s.bits (tell_get (Granted.Done f u) (st m.trees m.locals m.bits i k)) =
+  get-step q name (Ok u) m i k P =
+      let G : GetAny c q name s.bits (tell_get (Ok u) (st m.trees m.locals m.bits i k)) =
       subst (GetAny c q name s.bits) (sym P) (get-any c s.trees s.locals s.bits sz passes A.kept q name) in
-      let D : GrantedBlock c q.order name s.bits f u m.bits = G.granted refl in
+      let D : GrantedBlock c q.order name s.bits u.frame u.class m.bits = G.granted refl in
       let le : q.order ≤ c.tree_order = get-order q name (sym (ap (λ (x : Told). x.number) P)) in
       let j : ℕ = D.block in
       record {
@@ -80,18 +80,18 @@ module _ (c : Config) (sz : Size c.tree_order) (held : ℕ → Bool) (s : Words)
               ∙ sym (ap (λ (y : List ℕ). bit y x) D.bits);
         };
         counts = λ t.
-            ap (λ (y : List ℕ). clear c.tree_order y t + frames_in c.tree_order t q.order f) D.bits
+            ap (λ (y : List ℕ). clear c.tree_order y t + frames_in c.tree_order t q.order u.frame) D.bits
             ∙ ap (λ (y : ℕ). clear c.tree_order (mark true s.bits q.order D.block) t + frames_in c.tree_order t q.order y) D.frame
             ∙ take-counts s.bits q.order D.block D.inside c.tree_order sz.least le D.free t;
         once = λ x n.
             let n' : in_block q.order (D.block * 2 ^ q.order) x ≡ true = subst (λ (y : ℕ). in_block q.order y x ≡ true) D.frame n in
-            let v = in-block q.order f x n in
+            let v = in-block q.order u.frame x n in
             bit-false (held x) (A.agree x (omega (arith, v.1, D.below)) ∙ free-frame s.bits q.order D.block D.inside D.free x n');
         sound = λ z. omega (arith, z);
         loose = λ z. omega (arith, z);
       }
-  get-step q name (Granted.Refused w) m i k P =
-      let G : GetAny c q name s.bits (tell_get (Granted.Refused w) (st m.trees m.locals m.bits i k)) =
+  get-step q name (Err w) m i k P =
+      let G : GetAny c q name s.bits (tell_get (Err w) (st m.trees m.locals m.bits i k)) =
       subst (GetAny c q name s.bits) (sym P) (get-any c s.trees s.locals s.bits sz passes A.kept q name) in
       let e : m.bits ≡ s.bits = G.unchanged (refused w) in
       record {
@@ -103,7 +103,7 @@ module _ (c : Config) (sz : Size c.tree_order) (held : ℕ → Bool) (s : Words)
       }
 
   -- ---- put
-  pub record PutStep (q : Request) (f : ℕ) (r : Outcome) (m : Words) : Type 0 where
+  pub record PutStep (q : Request) (f : ℕ) (r : Result ⊤ Refusal) (m : Words) : Type 0 where
     pub after : Agreed c (held_after_put held q.order f r) m
     pub counts : (t : ℕ) → clear c.tree_order m.bits t ≡ clear c.tree_order s.bits t + gave_back c.tree_order t q.order f r
     pub once : AllHeld held q.order f r
@@ -117,10 +117,10 @@ module _ (c : Config) (sz : Size c.tree_order) (held : ℕ → Bool) (s : Words)
       go zero d = (refusal-checked c q f d).order
       go (suc n) d = absurd (omega (arith, e, ap (λ (x : Told). x.number) (put_refused c s.trees s.locals s.bits q f n passes d)))
 
-  pub put_step : (q : Request) (f : ℕ) (r : Outcome) (m : Words) → told r m.trees m.locals m.bits ≡ put c q f s.trees s.locals s.bits → PutStep q f r m
+  pub put_step : (q : Request) (f : ℕ) (r : Result ⊤ Refusal) (m : Words) → told r m.trees m.locals m.bits ≡ put c q f s.trees s.locals s.bits → PutStep q f r m
   unfolding outcome_of gave_back held_after_put
-  put_step q f Outcome.Done m P =
-      let G : PutAny c q f s.trees s.locals s.bits (told Outcome.Done m.trees m.locals m.bits) =
+  put_step q f (Ok tt) m P =
+      let G : PutAny c q f s.trees s.locals s.bits (told (Ok tt) m.trees m.locals m.bits) =
       subst (PutAny c q f s.trees s.locals s.bits) (sym P) (put-any c s.trees s.locals s.bits sz passes A.kept q f) in
       let D : Returned c q.order s.bits f m.bits = G.returned refl in
       let le : q.order ≤ c.tree_order = put_order q f (sym (ap (λ (x : Told). x.number) P)) in
@@ -137,13 +137,13 @@ module _ (c : Config) (sz : Size c.tree_order) (held : ℕ → Bool) (s : Words)
             ∙ sym (ap (λ (y : ℕ). clear c.tree_order s.bits t + frames_in c.tree_order t q.order y) D.frame);
         once = λ x n.
             let n' : in_block q.order (D.block * 2 ^ q.order) x ≡ true = subst (λ (y : ℕ). in_block q.order y x ≡ true) D.frame n in
-            let v = in-block q.order f x n in
+            let v = in-block q.order u.frame x n in
             bit-true (held x) (A.agree x (omega (arith, v.1, D.below)) ∙ held-frame s.bits q.order D.block D.inside D.held x n');
         sound = λ z. omega (arith, z);
         loose = λ z. omega (arith, z);
       }
-  put_step q f (Outcome.Refused w) m P =
-      let G : PutAny c q f s.trees s.locals s.bits (told (Outcome.Refused w) m.trees m.locals m.bits) =
+  put_step q f (Err w) m P =
+      let G : PutAny c q f s.trees s.locals s.bits (told (Err w) m.trees m.locals m.bits) =
       subst (PutAny c q f s.trees s.locals s.bits) (sym P) (put-any c s.trees s.locals s.bits sz passes A.kept q f) in
       let u = G.unchanged (refused w) in
       let e : m.bits ≡ s.bits = u.1.1 in
@@ -156,12 +156,12 @@ module _ (c : Config) (sz : Size c.tree_order) (held : ℕ → Bool) (s : Words)
       }
 
   -- ---- drain: always Done
-  pub record DrainStep (r : Outcome) (m : Words) : Type 0 where
+  pub record DrainStep (r : Result ⊤ Refusal) (m : Words) : Type 0 where
     pub after : Agreed c held m
     pub counts : (t : ℕ) → clear c.tree_order m.bits t ≡ clear c.tree_order s.bits t
     pub done : outcome_of r ≡ 0
 
-  pub drain-step : (r : Outcome) (m : Words) → told r m.trees m.locals m.bits ≡ drain c s.trees s.locals s.bits → DrainStep r m
+  pub drain-step : (r : Result ⊤ Refusal) (m : Words) → told r m.trees m.locals m.bits ≡ drain c s.trees s.locals s.bits → DrainStep r m
   drain-step r m P =
       let D : DrainKeeps c s.bits (told r m.trees m.locals m.bits) =
       subst (DrainKeeps c s.bits) (sym P) (drain-keeps c s.trees s.locals s.bits sz passes A.kept) in
@@ -179,10 +179,10 @@ module _ (c : Config) (sz : Size c.tree_order) (held : ℕ → Bool) (s : Words)
       (λ _. ifte-ind (λ (x : Report). (x.number ≡ 0) ⊎ (x.number ≡ 11)) (eqb (length rows) 8) _ _ (λ _. inl refl) (λ _. inr refl))
       (λ f. true-false passes f)
 
-  pub count-step : (rows : List Tally) (r : Totals) (filled : List Tally) → told_totals r filled ≡ statistics c s.trees s.locals s.bits rows
-      → (outcome_of r.outcome ≢ 1) × (outcome_of r.outcome ≢ 9)
+  pub count-step : (rows : List Tally) (r : Result Totals Refusal) (filled : List Tally) → told_totals r filled ≡ statistics c s.trees s.locals s.bits rows
+      → ((told_totals r filled).number ≢ 1) × ((told_totals r filled).number ≢ 9)
   count-step rows r filled P =
-      let n : outcome_of r.outcome ≡ (statistics c s.trees s.locals s.bits rows).number = ap (λ (x : Report). x.number) P in
+      let n : (told_totals r filled).number ≡ (statistics c s.trees s.locals s.bits rows).number = ap (λ (x : Report). x.number) P in
       (λ z. ⊎_elim (λ y. omega (arith, n, y, z)) (λ y. omega (arith, n, y, z)) (counted rows), λ z. ⊎_elim (λ y. omega (arith, n, y, z)) (λ y. omega (arith, n, y, z)) (counted rows))
 
 -- ---- a refused start is Config
@@ -190,7 +190,7 @@ started : (d : Config) (all_free : Bool) (t l b : List ℕ) → ((start d all_fr
 unfolding start
 started d all_free t l b = ifte-ind (λ (x : Told). (x.number ≡ 0) ⊎ (x.number ≡ 10)) (both (accepted d) (lengths_exact d t l b)) _ _ (λ _. inl refl) (λ _. inr refl)
 
-pub refused-start : (d : Config) (all_free : Bool) (s : Words) (r : Outcome) (m : Words) → told r m.trees m.locals m.bits ≡ start d all_free s.trees s.locals s.bits → outcome_of r ≢ 0
+pub refused-start : (d : Config) (all_free : Bool) (s : Words) (r : Result ⊤ Refusal) (m : Words) → told r m.trees m.locals m.bits ≡ start d all_free s.trees s.locals s.bits → outcome_of r ≢ 0
     → outcome_of r ≡ 10
 refused-start d all_free s r m P no' =
     ap (λ (x : Told). x.number) P
@@ -227,7 +227,7 @@ module _ (c : Config) (sz : Size c.tree_order) (all_free : Bool) (s0 : Words) wh
           ap bit_of e ∙ sym (S.set x (leb-true _ _ e) (omega (arith, lt, S.kept.bit_words, count-frames c.tree_order sz c.frames, count_bits c.tree_order sz c.frames)))
       go x lt false e = ap bit_of e ∙ sym (S.clear x (leb-false _ _ e))
 
-  pub start-step : (r : Outcome) (s : Words) → told r s.trees s.locals s.bits ≡ start c all_free s0.trees s0.locals s0.bits → outcome_of r ≡ 0 → StartStep s
+  pub start-step : (r : Result ⊤ Refusal) (s : Words) → told r s.trees s.locals s.bits ≡ start c all_free s0.trees s0.locals s0.bits → outcome_of r ≡ 0 → StartStep s
   start-step r s P z =
       let ok = start-done c s0.trees s0.locals s0.bits all_free (sym (ap (λ (x : Told). x.number) P) ∙ z) in
       subst (λ (x : Told). StartStep (words x.trees x.locals x.bits)) (sym P)

@@ -1,10 +1,10 @@
 -- Demand 3: over any finite sequence of calls after an accepted start, nothing drifts. Chains of calls, the ledger of calls and answers, the statements. Assumes nothing.
-use Rattle.std.specs.Prelude.{◌≡◌, Bool, true, false, not, List, [], ◌∷◌, ℕ, ◌+◌, ◌-◌, ◌*◌, ◌/◌, ◌^◌, ◌<◌, eqb, leb, ltb, get_or, length, Option}
+use Rattle.rules_calls.specs.Statistics.{told_totals}
+use Rattle.std.specs.Prelude.{◌≡◌, Bool, true, false, not, List, [], ◌∷◌, ℕ, ◌+◌, ◌-◌, ◌*◌, ◌/◌, ◌^◌, ◌<◌, eqb, leb, ltb, get_or, length, Option, Result, Ok, Err, ⊤}
 use Rattle.rules.specs.Base.{pick, both, either, sum}
 use Rattle.rules.specs.Words.{config, tree_frames, tree_count, entry_at, local_at}
 use Rattle.rules.specs.declared.Header.{Header}
 use Rattle.rules.specs.declared.Request.{Request}
-use Rattle.rules_calls.specs.declared.Outcome.{Outcome}
 use Rattle.rules_calls.specs.declared.Granted.{Granted}
 use Rattle.rules_calls.specs.declared.Reply.{Reply}
 use Rattle.rules_calls.specs.declared.Tally.{Tally}
@@ -12,6 +12,7 @@ use Rattle.rules_calls.specs.declared.Totals.{Totals}
 use Rattle.rules_calls.specs.Standing.{tree_on, standing}
 use Rattle.rules_calls.specs.Calls.{number_of, outcome_of, free_at_start, at_most}
 use Rattle.rules_calls.specs.Promises.{Words, words, StartPromise, GetPromise, PutPromise, DrainPromise, StatisticsPromise}
+use Rattle.rules_calls.specs.declared.Refusal.{Refusal}
 
 -- ---- a chain of calls, each on the words as the call before left them
 
@@ -24,10 +25,10 @@ pub data Lent : Type 0 where
 -- and bitmap words, each the state's or others
 pub data Step : Type 0 where
   gets : Option ℕ → Request → Reply → Step
-  puts : ℕ → Request → Outcome → Step
-  drains : Outcome → Step
-  reports : List Tally → Totals → List Tally → Step
-  starts : Header → List ℕ → Bool → Lent → Lent → Lent → Outcome → Step
+  puts : ℕ → Request → Result ⊤ Refusal → Step
+  drains : Result ⊤ Refusal → Step
+  reports : List Tally → Result Totals Refusal → List Tally → Step
+  starts : Header → List ℕ → Bool → Lent → Lent → Lent → Result ⊤ Refusal → Step
 
 -- the list that a start finds, where the state's is xs
 abbrev pub found : Lent → List ℕ → List ℕ
@@ -72,16 +73,16 @@ Chain h pairs (x ∷ xs) s e = (m : Words) × (Promised h pairs x s m × Chain h
 -- ---- what the caller saw of a step
 
 -- the outcome's number
-unfoldable pub number_got : Granted → ℕ
-number_got (Granted.Done f k) = 0
-number_got (Granted.Refused x) = number_of x
+unfoldable pub number_got : Result Granted Refusal → ℕ
+number_got (Ok g) = 0
+number_got (Err x) = number_of x
 
 -- of any step
 unfoldable pub number : Step → ℕ
 number (gets name q r) = number_got r.granted
 number (puts f q r) = outcome_of r
 number (drains r) = outcome_of r
-number (reports rows r filled) = outcome_of r.outcome
+number (reports rows r filled) = (told_totals r filled).number
 number (starts h pairs all_free t l b r) = outcome_of r
 
 -- no start in the chain was accepted, whatever it was lent
@@ -100,14 +101,14 @@ unfoldable pub frames_in : ℕ → ℕ → ℕ → ℕ → ℕ
 frames_in z t o f = pick (eqb (f / tree_frames z) t) (2 ^ o) 0
 
 -- frames of tree t that an accepted get handed out
-unfoldable pub handed : ℕ → ℕ → ℕ → Granted → ℕ
-handed z t o (Granted.Done f k) = frames_in z t o f
-handed z t o (Granted.Refused x) = 0
+unfoldable pub handed : ℕ → ℕ → ℕ → Result Granted Refusal → ℕ
+handed z t o (Ok g) = frames_in z t o g.frame
+handed z t o (Err x) = 0
 
 -- frames of tree t that an accepted put gave back
-unfoldable pub gave_back : ℕ → ℕ → ℕ → ℕ → Outcome → ℕ
-gave_back z t o f Outcome.Done = frames_in z t o f
-gave_back z t o f (Outcome.Refused x) = 0
+unfoldable pub gave_back : ℕ → ℕ → ℕ → ℕ → Result ⊤ Refusal → ℕ
+gave_back z t o f (Ok u) = frames_in z t o f
+gave_back z t o f (Err x) = 0
 
 -- frames of tree t handed out in all
 unfoldable pub handed_out : ℕ → ℕ → List Step → ℕ
@@ -136,24 +137,24 @@ unfoldable pub held_at_start : Bool → ℕ → ℕ → Bool
 held_at_start all_free frames x = leb (free_at_start all_free frames) x
 
 -- and then what an accepted get hands out
-unfoldable pub held_after_get : (ℕ → Bool) → ℕ → Granted → ℕ → Bool
-held_after_get held o (Granted.Done f k) x = either (in_block o f x) (held x)
-held_after_get held o (Granted.Refused r) x = held x
+unfoldable pub held_after_get : (ℕ → Bool) → ℕ → Result Granted Refusal → ℕ → Bool
+held_after_get held o (Ok g) x = either (in_block o g.frame x) (held x)
+held_after_get held o (Err r) x = held x
 
 -- less what an accepted put gives back
-unfoldable pub held_after_put : (ℕ → Bool) → ℕ → ℕ → Outcome → ℕ → Bool
-held_after_put held o f Outcome.Done x = both (not (in_block o f x)) (held x)
-held_after_put held o f (Outcome.Refused r) x = held x
+unfoldable pub held_after_put : (ℕ → Bool) → ℕ → ℕ → Result ⊤ Refusal → ℕ → Bool
+held_after_put held o f (Ok u) x = both (not (in_block o f x)) (held x)
+held_after_put held o f (Err r) x = held x
 
 -- an accepted get's block has no frame that is held already
-abbrev pub NotYetHeld : (ℕ → Bool) → ℕ → Granted → Type 0
-NotYetHeld held o (Granted.Done f k) = (x : ℕ) → in_block o f x ≡ true → held x ≡ false
-NotYetHeld held o (Granted.Refused r) = Unit {0}
+abbrev pub NotYetHeld : (ℕ → Bool) → ℕ → Result Granted Refusal → Type 0
+NotYetHeld held o (Ok g) = (x : ℕ) → in_block o g.frame x ≡ true → held x ≡ false
+NotYetHeld held o (Err r) = Unit {0}
 
 -- an accepted put's block has no frame that is not held
-abbrev pub AllHeld : (ℕ → Bool) → ℕ → ℕ → Outcome → Type 0
-AllHeld held o f Outcome.Done = (x : ℕ) → in_block o f x ≡ true → held x ≡ true
-AllHeld held o f (Outcome.Refused r) = Unit {0}
+abbrev pub AllHeld : (ℕ → Bool) → ℕ → ℕ → Result ⊤ Refusal → Type 0
+AllHeld held o f (Ok u) = (x : ℕ) → in_block o f x ≡ true → held x ≡ true
+AllHeld held o f (Err r) = Unit {0}
 
 -- so at each step, with what the ledger holds before it
 abbrev pub NoneTwice : (ℕ → Bool) → List Step → Type 0
@@ -192,7 +193,7 @@ pub record Demand3 (z frames : ℕ) (all_free : Bool) (xs : List Step) (e : Word
 
 -- the sequence theorem's statement: a start that answers Done, then any chain of calls with no further accepted start
 abbrev pub Sequence : Type 0
-Sequence = (h : Header) (pairs : List ℕ) (all_free : Bool) (s0 s e : Words) (r : Outcome) (xs : List Step)
+Sequence = (h : Header) (pairs : List ℕ) (all_free : Bool) (s0 s e : Words) (r : Result ⊤ Refusal) (xs : List Step)
     → StartPromise h pairs all_free s0 r s → outcome_of r ≡ 0 → NoRestart xs → Chain h pairs xs s e
     → Demand3 11 h.frames all_free xs e
 
@@ -205,7 +206,7 @@ NoneStuck (x ∷ xs) = (number x ≡ 9 → ⊥) × NoneStuck xs
 
 -- no call of such a chain is Stuck
 abbrev pub NeverStuck : Type 0
-NeverStuck = (h : Header) (pairs : List ℕ) (all_free : Bool) (s0 s e : Words) (r : Outcome) (xs : List Step)
+NeverStuck = (h : Header) (pairs : List ℕ) (all_free : Bool) (s0 s e : Words) (r : Result ⊤ Refusal) (xs : List Step)
     → StartPromise h pairs all_free s0 r s → outcome_of r ≡ 0 → NoRestart xs → Chain h pairs xs s e
     → NoneStuck xs
 

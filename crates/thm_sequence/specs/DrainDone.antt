@@ -1,11 +1,11 @@
 -- What a drain that is Done leaves, from any words. The statement alone; its proof is in Drains. Assumes nothing.
-use Rattle.std.specs.Prelude.{◌≡◌, false, List, ℕ, ◌^◌, ◌<◌, get_or}
+use Rattle.std.specs.Prelude.{◌≡◌, false, List, ℕ, ◌^◌, ◌<◌, get_or, Result, ⊤}
 use Rattle.rules.specs.Words.{tree_count, entry_at}
 use Rattle.rules.specs.Lower.{clear}
 use Rattle.rules.specs.declared.Header.{Header}
-use Rattle.rules_calls.specs.declared.Outcome.{Outcome}
 use Rattle.rules_calls.specs.Calls.{outcome_of}
 use Rattle.rules_calls.specs.Promises.{Words, DrainPromise}
+use Rattle.rules_calls.specs.declared.Refusal.{Refusal}
 
 -- of so many frames, the words s before and e after: every reservation was returned to its tree
 pub record DrainLeaves (z frames : ℕ) (s e : Words) : Type 0 where
@@ -20,6 +20,6 @@ pub record DrainLeaves (z frames : ℕ) (s e : Words) : Type 0 where
 
 -- a drain that answers Done leaves that, tree words being words of 32 bits
 abbrev pub DrainDone : Type 0
-DrainDone = (h : Header) (pairs : List ℕ) (s : Words) (r : Outcome) (e : Words)
+DrainDone = (h : Header) (pairs : List ℕ) (s : Words) (r : Result ⊤ Refusal) (e : Words)
     → DrainPromise h pairs s r e → outcome_of r ≡ 0 → ((t : ℕ) → get_or s.trees t 0 < 2 ^ 32)
     → DrainLeaves 11 h.frames s e

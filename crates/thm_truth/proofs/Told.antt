@@ -1,7 +1,8 @@
 -- What the call `statistics` tells of a state that passes the standing rules. Assumes nothing.
+use Rattle.rules_calls.specs.declared.Refusal.{Refusal}
 use Rattle.std.specs.Prelude.{◌≡◌, true, List, eqb, length, get_or}
 use Rattle.std.proofs.Math.Path.{refl, sym, ap}
-use Rattle.std.proofs.Common.{◌∙◌, subst, not-suc-le-zero, le_of_suc-le-suc, eq-eqb}
+use Rattle.std.proofs.Common.{◌∙◌, subst, not-suc-le-zero, le_of_suc-le-suc, eq-eqb, Result}
 use Prim.Native.Nat.{ℕ, zero, suc, ◌+◌, ◌<◌}
 use native.Mathlib.Omega.{arith}
 use Rattle.rules.specs.Base.{sum}
@@ -11,7 +12,7 @@ use Rattle.rules_calls.specs.declared.Tally.{Tally}
 use Rattle.rules_calls.specs.declared.Totals.{Totals}
 use Rattle.rules_calls.specs.Standing.{standing}
 use Rattle.rules_calls.specs.Calls.{outcome_of}
-use Rattle.rules_calls.specs.Statistics.{in_use, tally, tallies, reporting, statistics}
+use Rattle.rules_calls.specs.Statistics.{in_use, tally, tallies, reporting, statistics, told_totals}
 use Rattle.rules_calls.specs.Promises.{Words, StatisticsPromise}
 use Rattle.law_rules.specs.Sum.{sum-none, sum_one, sum-add}
 use Rattle.law_rules.specs.Sizes.{Size, size-eleven}
@@ -59,8 +60,8 @@ statistics-true c sz ts ls bs rows w S e =
     (λ f. true-false S f)
 
 -- so does the answer that the promise of `statistics` allows
-pub promise-true : (h : Header) (pairs : List ℕ) (s : Words) (rows : List Tally) (r : Totals) (filled : List Tally) → StatisticsPromise h pairs s rows r filled
+pub promise-true : (h : Header) (pairs : List ℕ) (s : Words) (rows : List Tally) (r : Result Totals Refusal) (filled : List Tally) → StatisticsPromise h pairs s rows r filled
     → TreeWords s.trees → standing (config h pairs) s.trees s.locals s.bits ≡ true → length rows ≡ 8
-    → Truthful (config h pairs) s.trees s.locals s.bits (reporting (outcome_of r.outcome) r.free r.trees filled)
+    → Truthful (config h pairs) s.trees s.locals s.bits (told_totals r filled)
 promise-true h pairs s rows r filled p w S e =
     subst (Truthful (config h pairs) s.trees s.locals s.bits) (sym p) (statistics-true (config h pairs) size-eleven s.trees s.locals s.bits rows w S e)

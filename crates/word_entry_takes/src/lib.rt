@@ -57,26 +57,26 @@ pub fn reserve_or_steal(table: &[u32; 64], t: Tree, class: usize, n: usize) -> O
     }
     match word_policy::ask(table, class, t.class, n) {
         Kind::Invalid => None,
-        Kind::Steal => Taken::Part(Tree {
+        Kind::Steal => Some(Taken::Part(Tree {
             free: t.free - n,
             reserved: false,
             class: t.class,
-        }),
-        Kind::Demote => Taken::Whole(
+        })),
+        Kind::Demote => Some(Taken::Whole(
             Tree {
                 free: 0,
                 reserved: true,
                 class: class,
             },
             t.free as u32,
-        ),
-        Kind::Match(_) => Taken::Whole(
+        )),
+        Kind::Match(_) => Some(Taken::Whole(
             Tree {
                 free: 0,
                 reserved: true,
                 class: class,
             },
             t.free as u32,
-        ),
+        )),
     }
 }

@@ -2,13 +2,13 @@
 use Rattle.rules_calls.specs.Calls.{tell_get}
 use Rattle.c_numbers.proofs.answered.Goals as goal
 
-pub returns-in-Done : goal.returns-in-Done
+pub returns-in-Ok : goal.returns-in-Ok
 unfolding tell_get
-returns-in-Done c = λ t l b. rw c.in-Done.is
+returns-in-Ok c = λ t l b. rw c.in-Ok.is
 
-pub returns-in-Refused : goal.returns-in-Refused
+pub returns-in-Err : goal.returns-in-Err
 unfolding tell_get
-returns-in-Refused c = λ t l b. rw (
-  c.in-Refused.is,
+returns-in-Err c = λ t l b. rw (
+  c.in-Err.is,
   ← c.refusal_number.ensures,
 )

@@ -2,15 +2,15 @@
 use Rattle.rules_calls.specs.Calls.{outcome_of, number_of}
 use Rattle.c_numbers.proofs.number.Goals as goal
 
-pub returns-in-Done : goal.returns-in-Done
+pub returns-in-Ok : goal.returns-in-Ok
 unfolding outcome_of number_of
-returns-in-Done c =
-    rw c.in-Done.is
+returns-in-Ok c =
+    rw c.in-Ok.is
 
-pub returns-in-Refused : goal.returns-in-Refused
+pub returns-in-Err : goal.returns-in-Err
 unfolding outcome_of number_of
-returns-in-Refused c =
+returns-in-Err c =
     rw (
-      c.in-Refused.is,
+      c.in-Err.is,
       ← c.refusal_number.ensures,
     )

@@ -9,28 +9,28 @@ use Rattle.get.proofs.get.Goals as goal
 pub routes-requires : goal.routes-requires
 routes-requires c =
     checked-fits _ _ _ _ (standing-accepted _ _ _ _ (sym c.stands.ensures ∙ c.if-stands.true))
-    (done-checked _ _ (c.check.ensures _) c.in-Done.is)
+    (done-checked _ _ (c.check.ensures _) c.in-Ok.is)
 
-pub returns-in-Done : goal.returns-in-Done
+pub returns-in-Ok : goal.returns-in-Ok
 unfolding get
-returns-in-Done c =
+returns-in-Ok c =
     rw (← c.frame_of.ensures)
     (tests-passed _ _ _ _ _
     c.stands.ensures
     c.if-stands.true
     (c.check.ensures _)
-    c.in-Done.is
+    c.in-Ok.is
     (c.reply.ensures _ _ _ ∙ ap close c.routes.ensures))
 
-pub returns-in-Refused : goal.returns-in-Refused
+pub returns-in-Err : goal.returns-in-Err
 unfolding get tell_get
-returns-in-Refused c =
+returns-in-Err c =
     rw (← c.frame_of.ensures, c.refused.ensures)
     (argument-refused _ _ _ _ _
     c.stands.ensures
     c.if-stands.true
     (c.check.ensures _)
-    c.in-Refused.is)
+    c.in-Err.is)
 
 pub returns-else-stands : goal.returns-else-stands
 unfolding get tell_get number_of

@@ -1,13 +1,14 @@
 -- What the goals of `local_payers::payer_in` follow from. Assumes nothing.
+use mathlib.Core.Path.{sym, ◌∙◌}
 use Rattle.local_payers.specs.Loops.{passes, payer-end, pays}
 use Rattle.local_payers.proofs.payer_in.Goals as goal
 
 pub returns-in-Some : goal.returns-in-Some
 returns-in-Some c =
-    pays _ _ _ _ _ _ _ _
+    sym c.in-Some.is ∙ pays _ _ _ _ _ _ _ _
     c.loop-d.invariant
     c.loop-d-test.true
-    c.payer_at-payer.ensures
+    c.payer_at.ensures
     c.in-Some.is
 
 pub loop-d-preserved : goal.loop-d-preserved
@@ -15,7 +16,7 @@ loop-d-preserved c =
     passes _ _ _ _ _ _ _ _
     c.loop-d.invariant
     c.loop-d-test.true
-    c.payer_at-payer.ensures
+    c.payer_at.ensures
     c.in_default.is
 
 pub returns : goal.returns

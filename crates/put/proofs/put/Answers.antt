@@ -9,26 +9,26 @@ use Rattle.put.proofs.put.Goals as goal
 pub put_body-requires : goal.put_body-requires
 put_body-requires c =
     checked-fits _ _ _ _ (standing-accepted _ _ _ _ (sym c.stands.ensures ∙ c.if-stands.true))
-    (done-checked _ _ (c.check.ensures _) c.in-Done.is)
+    (done-checked _ _ (c.check.ensures _) c.in-Ok.is)
 
-pub returns-in-Done : goal.returns-in-Done
+pub returns-in-Ok : goal.returns-in-Ok
 unfolding put
-returns-in-Done c =
+returns-in-Ok c =
     tests-passed _ _ _ _ _
     c.stands.ensures
     c.if-stands.true
     (c.check.ensures _)
-    c.in-Done.is
+    c.in-Ok.is
     c.put_body.ensures
 
-pub returns-in-Refused : goal.returns-in-Refused
+pub returns-in-Err : goal.returns-in-Err
 unfolding put outcome_of
-returns-in-Refused c =
+returns-in-Err c =
     argument-refused _ _ _ _ _
     c.stands.ensures
     c.if-stands.true
     (c.check.ensures _)
-    c.in-Refused.is
+    c.in-Err.is
 
 pub returns-else-stands : goal.returns-else-stands
 unfolding put outcome_of number_of

@@ -69,7 +69,7 @@ returns c = λ pairs.
     let x = config c.args.h pairs in
     let row : (k : ℕ) → k < 8 → row_of 11 c.entries_by_class-e.result (local_free x c.args.locals.now k) c.reserved_by_class-held.result k ≡ tally x c.args.trees.now c.args.locals.now k =
     λ k l. row_is x c.args.trees.now c.args.locals.now c.entries_by_class-e.result c.reserved_by_class-held.result k l (rw (← n) e.0) (rw (← n) e.1.0) (rw (← n) e.1.1) (rw (← m) g) in
-    eight (tally x c.args.trees.now c.args.locals.now)
+    eight x c.args.trees.now c.args.locals.now
     (c.class_row.ensures pairs ∙ row 0 (omega arith))
     (c.class_row-2.ensures pairs ∙ row 1 (omega arith))
     (c.class_row-3.ensures pairs ∙ row 2 (omega arith))

@@ -1,34 +1,23 @@
 -- `tree_words::reserve_or_steal` meets its contract. Assumes nothing.
+use mathlib.Core.Path.{sym, ◌∙◌}
 use Rattle.rules.specs.Entries.{entry_reserve, keep_taken}
 use Rattle.tree_words.proofs.reserve_or_steal.Goals as goal
+use Rattle.tree_words.proofs.reserve_or_steal.Goals.{in-Part, in-Whole}
 
-pub returns-in-None : goal.returns-in-None
+pub returns-in_err-taken : goal.returns-in_err-taken
 unfolding entry_reserve keep_taken
-returns-in-None c =
+returns-in_err-taken c =
     λ h. rw (
       ← c.load-old.ensures.0,
       ← c.reserve_or_steal.ensures h,
-      c.in-None.is,
+      c.in_err-taken.was,
+      c.from_residual.ensures,
     )
 
-pub returns-in-Some-Part : goal.returns-in-Some-Part
+pub returns : goal.returns
 unfolding entry_reserve keep_taken
-returns-in-Some-Part c =
-    λ h. rw (
-      ← c.load-old.ensures.0,
-      ← c.reserve_or_steal.ensures h,
-      c.in-Some-Part.is,
-      ← c.tree_word.ensures,
-      ← c.store.ensures,
-    )
-
-pub returns-in-Some-Whole : goal.returns-in-Some-Whole
-unfolding entry_reserve keep_taken
-returns-in-Some-Whole c =
-    λ h. rw (
-      ← c.load-old.ensures.0,
-      ← c.reserve_or_steal.ensures h,
-      c.in-Some-Whole.is,
-      ← c.tree_word-in-Some-Whole.ensures,
-      ← c.store-in-Some-Whole.ensures,
-    )
+returns c =
+    λ h. elim c.match-taken.branch [
+      in-Part w ↦ rw (← c.load-old.ensures.0, ← c.reserve_or_steal.ensures h, c.in_ok-taken.was, w.taken-is, w.in-Part.is, c.store.ensures, c.tree_word.ensures, w.new-is)
+    | in-Whole w ↦ rw (← c.load-old.ensures.0, ← c.reserve_or_steal.ensures h, c.in_ok-taken.was, w.taken-is, w.in-Whole.is, c.store.ensures, c.tree_word.ensures, w.new-is)
+    ]

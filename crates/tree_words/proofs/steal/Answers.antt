@@ -2,22 +2,23 @@
 use Rattle.rules.specs.Entries.{entry_steal, keep_took}
 use Rattle.tree_words.proofs.steal.Goals as goal
 
-pub returns-in-None : goal.returns-in-None
+pub returns-in_err-left : goal.returns-in_err-left
 unfolding entry_steal keep_took
-returns-in-None c =
+returns-in_err-left c =
     λ h. rw (
       ← c.load-old.ensures.0,
       ← c.steal.ensures h,
-      c.in-None.is,
+      c.in_err-left.was,
+      c.from_residual.ensures,
     )
 
-pub returns-in-Some : goal.returns-in-Some
+pub returns : goal.returns
 unfolding entry_steal keep_took
-returns-in-Some c =
+returns c =
     λ h. rw (
       ← c.load-old.ensures.0,
       ← c.steal.ensures h,
-      c.in-Some.is,
+      c.in_ok-left.was,
       ← c.tree_word.ensures,
       ← c.store.ensures,
     )

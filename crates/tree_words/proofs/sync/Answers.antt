@@ -2,22 +2,23 @@
 use Rattle.rules.specs.Entries.{entry_sync, keep_sync}
 use Rattle.tree_words.proofs.sync.Goals as goal
 
-pub returns-in-None : goal.returns-in-None
+pub returns-in_err-empty : goal.returns-in_err-empty
 unfolding entry_sync keep_sync
-returns-in-None c =
+returns-in_err-empty c =
     rw (
       ← c.load-old.ensures.0,
       ← c.sync.ensures,
-      c.in-None.is,
+      c.in_err-empty.was,
+      c.from_residual.ensures,
     )
 
-pub returns-in-Some : goal.returns-in-Some
+pub returns : goal.returns
 unfolding entry_sync keep_sync
-returns-in-Some c =
+returns c =
     rw (
       ← c.load-old.ensures.0,
       ← c.sync.ensures,
-      c.in-Some.is,
+      c.in_ok-empty.was,
       ← c.tree_word.ensures,
       ← c.store.ensures,
     )

@@ -2,22 +2,23 @@
 use Rattle.rules.specs.Entries.{entry_unreserve, keep_took}
 use Rattle.tree_words.proofs.unreserve.Goals as goal
 
-pub returns-in-None : goal.returns-in-None
+pub returns-in_err-whole : goal.returns-in_err-whole
 unfolding entry_unreserve keep_took
-returns-in-None c =
+returns-in_err-whole c =
     rw (
       ← c.load-old.ensures.0,
       ← c.unreserve.ensures,
-      c.in-None.is,
+      c.in_err-whole.was,
+      c.from_residual.ensures,
     )
 
-pub returns-in-Some : goal.returns-in-Some
+pub returns : goal.returns
 unfolding entry_unreserve keep_took
-returns-in-Some c =
+returns c =
     rw (
       ← c.load-old.ensures.0,
       ← c.unreserve.ensures,
-      c.in-Some.is,
+      c.in_ok-whole.was,
       ← c.tree_word.ensures,
       ← c.store.ensures,
     )
