@@ -21,9 +21,9 @@ pub fn start(
     if !test_accept::accepts(h, table) {
         return Err(Refusal::Config);
     }
-    if !test_lengths::lengths_exact(h, trees, locals, bits) {
-        return Err(Refusal::Config);
+    if test_lengths::lengths_exact(h, trees, locals, bits) {
+        start_body::start_body(h, trees, locals, bits, free);
+        return Ok(());
     }
-    start_body::start_body(h, trees, locals, bits, free);
-    Ok(())
+    Err(Refusal::Config)
 }

@@ -6,34 +6,34 @@ use Rattle.test_arguments.specs.Refusals.{done-checked, state-broken, argument-r
 use Rattle.rules_calls.specs.Calls.{number_of, tell_get, close, get}
 use Rattle.get.proofs.get.Goals as goal
 
-pub routes-requires : goal.routes-requires
-routes-requires c =
-    checked-fits _ _ _ _ (standing-accepted _ _ _ _ (sym c.stands.ensures ∙ c.if-stands.true))
-    (done-checked _ _ (c.check.ensures _) c.in-Ok.is)
-
-pub returns-in-Ok : goal.returns-in-Ok
-unfolding get
-returns-in-Ok c =
-    rw (← c.frame_of.ensures)
-    (tests-passed _ _ _ _ _
-    c.stands.ensures
-    c.if-stands.true
-    (c.check.ensures _)
-    c.in-Ok.is
-    (c.reply.ensures _ _ _ ∙ ap close c.routes.ensures))
+pub returns-then-not-stands : goal.returns-then-not-stands
+unfolding get tell_get number_of
+returns-then-not-stands c =
+    rw c.refused.ensures
+    (state-broken _ _ _ _ _ c.stands.ensures c.if-not-stands.true)
 
 pub returns-in-Err : goal.returns-in-Err
 unfolding get tell_get
 returns-in-Err c =
-    rw (← c.frame_of.ensures, c.refused.ensures)
+    rw (← c.frame_of.ensures, c.refused-in-Err.ensures)
     (argument-refused _ _ _ _ _
     c.stands.ensures
-    c.if-stands.true
+    c.if-not-stands.false
     (c.check.ensures _)
     c.in-Err.is)
 
-pub returns-else-stands : goal.returns-else-stands
-unfolding get tell_get number_of
-returns-else-stands c =
-    rw c.refused-else-stands.ensures
-    (state-broken _ _ _ _ _ c.stands.ensures c.if-stands.false)
+pub routes-requires : goal.routes-requires
+routes-requires c =
+    checked-fits _ _ _ _ (standing-accepted _ _ _ _ (sym c.stands.ensures ∙ c.if-not-stands.false))
+    (done-checked _ _ (c.check.ensures _) c.in_default.is)
+
+pub returns : goal.returns
+unfolding get
+returns c =
+    rw (← c.frame_of.ensures)
+    (tests-passed _ _ _ _ _
+    c.stands.ensures
+    c.if-not-stands.false
+    (c.check.ensures _)
+    c.in_default.is
+    (c.reply.ensures _ _ _ ∙ ap close c.routes.ensures))

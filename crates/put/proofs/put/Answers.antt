@@ -6,30 +6,31 @@ use Rattle.test_arguments.specs.Refusals.{done-checked, state-broken, argument-r
 use Rattle.rules_calls.specs.Calls.{number_of, outcome_of, put}
 use Rattle.put.proofs.put.Goals as goal
 
+pub returns-then-not-stands : goal.returns-then-not-stands
+unfolding put outcome_of number_of
+returns-then-not-stands c = state-broken _ _ _ _ _ c.stands.ensures c.if-not-stands.true
+
+pub returns-in_err-check : goal.returns-in_err-check
+unfolding put outcome_of
+returns-in_err-check c =
+    rw c.from_residual.ensures
+    (argument-refused _ _ _ _ _
+    c.stands.ensures
+    c.if-not-stands.false
+    (c.check.ensures _)
+    c.in_err-check.was)
+
 pub put_body-requires : goal.put_body-requires
 put_body-requires c =
-    checked-fits _ _ _ _ (standing-accepted _ _ _ _ (sym c.stands.ensures ∙ c.if-stands.true))
-    (done-checked _ _ (c.check.ensures _) c.in-Ok.is)
+    checked-fits _ _ _ _ (standing-accepted _ _ _ _ (sym c.stands.ensures ∙ c.if-not-stands.false))
+    (done-checked _ _ (c.check.ensures _) c.in_ok-check.was)
 
-pub returns-in-Ok : goal.returns-in-Ok
+pub returns : goal.returns
 unfolding put
-returns-in-Ok c =
+returns c =
     tests-passed _ _ _ _ _
     c.stands.ensures
-    c.if-stands.true
+    c.if-not-stands.false
     (c.check.ensures _)
-    c.in-Ok.is
+    c.in_ok-check.was
     c.put_body.ensures
-
-pub returns-in-Err : goal.returns-in-Err
-unfolding put outcome_of
-returns-in-Err c =
-    argument-refused _ _ _ _ _
-    c.stands.ensures
-    c.if-stands.true
-    (c.check.ensures _)
-    c.in-Err.is
-
-pub returns-else-stands : goal.returns-else-stands
-unfolding put outcome_of number_of
-returns-else-stands c = state-broken _ _ _ _ _ c.stands.ensures c.if-stands.false

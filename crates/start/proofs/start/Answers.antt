@@ -9,13 +9,13 @@ use Rattle.rules_calls.specs.Calls.{start}
 use Rattle.start.proofs.start.Goals as goal
 
 pub lengths_exact-requires : goal.lengths_exact-requires
-lengths_exact-requires c = frames_small _ _ (sym c.accepts.ensures ∙ c.if-accepts.true)
+lengths_exact-requires c = frames_small _ _ (sym c.accepts.ensures ∙ c.if-not-accepts.false)
 
 pub start_body-requires : goal.start_body-requires
 start_body-requires c =
     let l = lengths-say _ _ _ _ (sym (c.lengths_exact.ensures []) ∙ c.if-lengths_exact.true) in
     record {
-      frames_bound = frames_small _ _ (sym c.accepts.ensures ∙ c.if-accepts.true);
+      frames_bound = frames_small _ _ (sym c.accepts.ensures ∙ c.if-not-accepts.false);
       trees_len = l.tree_words;
       locals_len = l.local_words;
       bits_len = l.bit_words;
@@ -26,26 +26,26 @@ unfolding start ifte outcome_of
 returns-then-lengths_exact c =
     rw (
       ← c.accepts.ensures,
-      c.if-accepts.true,
+      c.if-not-accepts.false,
       ← c.lengths_exact.ensures _,
       c.if-lengths_exact.true,
     )
     (ap (λ (s : State). telling 0 0 0 s) (c.start_body.ensures _))
-
-pub returns-then-accepts : goal.returns-then-accepts
-unfolding start ifte outcome_of number_of
-returns-then-accepts c =
-    rw (
-      ← c.accepts.ensures,
-      c.if-accepts.true,
-      ← c.lengths_exact.ensures _,
-      c.if-lengths_exact.false,
-    )
 
 pub returns : goal.returns
 unfolding start ifte outcome_of number_of
 returns c =
     rw (
       ← c.accepts.ensures,
-      c.if-accepts.false,
+      c.if-not-accepts.false,
+      ← c.lengths_exact.ensures _,
+      c.if-lengths_exact.false,
+    )
+
+pub returns-then-not-accepts : goal.returns-then-not-accepts
+unfolding start ifte outcome_of number_of
+returns-then-not-accepts c =
+    rw (
+      ← c.accepts.ensures,
+      c.if-not-accepts.true,
     )

@@ -1,9 +1,16 @@
-use Rattle.std.proofs.Common.{rules, ◌≡◌, ◌^◌, ◌<◌, ℕ, ◌+◌, ◌-◌, ◌*◌, ◌≤◌, length, ◌/◌, ◌%◌, Bool, true, false, nat_eq, nat_lt, List, [], ◌∷◌, ◌++◌, slice_index_or, slice_set, bit_and, bit_or, Fits, w8, w32, w64, Bor, MutBor}
+-- `tree_returns::unreserve` meets its contract. Assumes nothing.
+use Rattle.std.proofs.Common.{◌≡◌, List, ℕ, Option, Some, None, refl, ap, ◌∙◌}
+use Rattle.std.specs.Option.{is_some}
 use Rattle.rules.specs.Base.{out}
-use Rattle.rules.specs.Words.{config}
-use Rattle.tree_returns.specs.Returned.{returned, returned_local}
+use Rattle.rules.specs.declared.Tree.{Tree}
+use Rattle.tree_returns.specs.Returned.{returned, took_back}
 use Rattle.tree_returns.proofs.unreserve.Goals as goal
 
--- src/lib.rt:12:1
+some-back : (o : Option Tree) (ts : List ℕ) → out (is_some o) ts ≡ took_back (out o ts)
+unfolding took_back
+some-back (Some e) ts = refl
+some-back None ts = refl
+
 pub returns : goal.returns
-returns c = ?
+unfolding returned
+returns c = rw c.is_some.ensures (some-back c.unreserve.result c.unreserve.new.trees ∙ ap took_back c.unreserve.ensures)
