@@ -27,12 +27,12 @@ module _ (c : Config) (q : Request) (t : ℕ) (s : State) {w : Way} {n : ℕ} {t
     unfolding reserve_or_steal on_taken with_trees
     reserve-none e h = rw (← much, ← took, e) h
 
-    pub reserve-part : {a : Tree} {u : ℕ} → x ≡ Taken.Part a
+    pub reserve-part : {a : Tree} {u : ℕ} → x ≡ Some (Taken.Part a)
         → w ≡ ask_lower c q None u (t * tree_rows c.tree_order) a.class (st ts s.locals s.bits s.looks s.tries) → u ≡ t → w ≡ reserve_or_steal c q j t s
     unfolding reserve_or_steal on_taken with_trees
     reserve-part e h same = rw (← much, ← took, e) (rw same at h)
 
-    pub reserve-whole : {a : Tree} {old : ℕ} → x ≡ Taken.Whole a old
+    pub reserve-whole : {a : Tree} {old : ℕ} → x ≡ Some (Taken.Whole a old)
         → w ≡ reserved_tree c q j t old (st ts s.locals s.bits s.looks s.tries) → w ≡ reserve_or_steal c q j t s
     unfolding reserve_or_steal on_taken with_trees
     reserve-whole e h = rw (← much, ← took, e) h

@@ -7,16 +7,10 @@ ghost use Rattle.rules_calls.specs.Statistics.{total_free, free_trees};
 ghost use Rattle.stats_totals.specs.Wholes.{entries_free, entries_whole, locals_free, locals_whole};
 
 use rules::Header;
-
-// Total free, and free trees.
-#[derive(Clone, Copy)]
-pub struct Whole {
-    pub free: usize,
-    pub trees: usize,
-}
+use rules_calls::Totals;
 
 // Total free and free trees of the first n entries.
-fn entries_whole(trees: &[u32], n: usize) -> Whole
+fn entries_whole(trees: &[u32], n: usize) -> Totals
     requires { n ≤ 1024 }
     ensures { (result.free ≡ entries_free trees.now n) × ((result.trees ≡ entries_whole 11 trees.now n)
         × ((result.free ≤ 2 ^ 38) × (result.trees ≤ 2 ^ 38))) }
@@ -28,14 +22,14 @@ fn entries_whole(trees: &[u32], n: usize) -> Whole
         free = free + e.free;
         whole = whole + e.free / 2048;
     }
-    Whole {
+    Totals {
         free: free,
         trees: whole,
     }
 }
 
 // Total free and free trees of the first n locals.
-fn locals_whole(locals: &[u64], n: usize) -> Whole
+fn locals_whole(locals: &[u64], n: usize) -> Totals
     requires { n < 2048 }
     ensures { (result.free ≡ locals_free locals.now n) × ((result.trees ≡ locals_whole 11 locals.now n)
         × ((result.free ≤ 2 ^ 38) × (result.trees ≤ 2 ^ 38))) }
@@ -47,21 +41,21 @@ fn locals_whole(locals: &[u64], n: usize) -> Whole
         free = free + l.free;
         whole = whole + l.free / 2048;
     }
-    Whole {
+    Totals {
         free: free,
         trees: whole,
     }
 }
 
 // Total free sums entries and locals; free trees are each entry's and each local's, rounded down, then summed.
-pub fn totals(h: Header, trees: &[u32], locals: &[u64]) -> Whole
+pub fn totals(h: Header, trees: &[u32], locals: &[u64]) -> Totals
     requires { h.frames ≤ 2 ^ 21 }
     ensures { ((pairs : List ℕ) → result.free ≡ total_free (config h pairs) trees.now locals.now)
         × ((pairs : List ℕ) → result.trees ≡ free_trees (config h pairs) trees.now locals.now) }
 {
     let a = entries_whole(trees, word_header::tree_count(h.frames));
     let b = locals_whole(locals, word_header::local_count(h));
-    Whole {
+    Totals {
         free: a.free + b.free,
         trees: a.trees + b.trees,
     }

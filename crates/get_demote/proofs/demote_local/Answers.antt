@@ -8,7 +8,7 @@ returns-in_default c = (
   nobody _ _ _ _
       c.index_of-i.ensures
       c.size-n.ensures.0
-      c.demote_any-payer.ensures
+      c.demote_any.ensures
       c.in_default.is
       (c.missed.ensures.0 _ _ _),
   omega (arith, c.missed.ensures.1),
@@ -22,7 +22,7 @@ returns c = (
   leaves _ _ _ _
       c.index_of-i.ensures
       c.size-n.ensures.0
-      c.demote_any-payer.ensures
+      c.demote_any.ensures
       c.in-Some.is
       (c.pay.ensures _)
       c.clear-l.ensures.0

@@ -9,7 +9,7 @@ returns-in_default c = (
   pay-nobody _ _ _ _
       c.index_of-i.ensures
       c.size-n.ensures.0
-      c.steal_any-payer.ensures
+      c.steal_any.ensures
       c.in_default.is
       (c.missed.ensures.0 _ _ _),
   omega (arith, c.missed.ensures.1),
@@ -20,7 +20,7 @@ returns c = (
   pay-row _ _ _ _
       c.index_of-i.ensures
       c.size-n.ensures.0
-      c.steal_any-payer.ensures
+      c.steal_any.ensures
       c.in-Some.is
       (c.pay-row.ensures _)
       (c.ask_lower.ensures.0 _)
