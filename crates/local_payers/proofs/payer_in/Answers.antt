@@ -3,20 +3,20 @@ use Rattle.local_payers.specs.Loops.{passes, payer-end, pays}
 use Rattle.local_payers.proofs.payer_in.Goals as goal
 
 pub returns-in-Local : goal.returns-in-Local
-returns-in-Local c =
-    pays _ _ _ _ _ _ _ _
-    c.loop-d.invariant
+returns-in-Local g c =
+    λ p same. pays _ _ _ _ _ _ _ _
+    (c.loop-d.invariant p same)
     c.loop-d-test.true
-    c.payer_at-payer.ensures
+    (c.payer_at-payer.ensures p same)
     c.in-Local.is
 
 pub loop-d-preserved : goal.loop-d-preserved
-loop-d-preserved c =
-    passes _ _ _ _ _ _ _ _
-    c.loop-d.invariant
+loop-d-preserved g c =
+    λ p same. passes _ _ _ _ _ _ _ _
+    (c.loop-d.invariant p same)
     c.loop-d-test.true
-    c.payer_at-payer.ensures
+    (c.payer_at-payer.ensures p same)
     c.in_default.is
 
 pub returns : goal.returns
-returns c = payer-end _ _ _ _ _ _ _ _ c.loop-d.invariant c.loop-d-test.false
+returns g c = λ p same. payer-end _ _ _ _ _ _ _ _ (c.loop-d.invariant p same) c.loop-d-test.false
