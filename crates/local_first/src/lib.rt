@@ -9,19 +9,15 @@ ghost use Rattle.local_first.specs.Round.{payer_of};
 use rules::{Header, Local, Payer};
 
 // Whether a local has enough, and the named tree.
+#[tactic(auto, unfolding(rules::specs::Locals::has_enough))]
 fn has_enough(l: Local, name: Option<usize>, n: usize) -> bool
     ensures { result ≡ has_enough 11 l name n }
 {
-    if l.present {
-        if local_words::in_tree(l.row, name) {
-            return n <= l.free;
-        }
-        return false;
-    }
-    false
+    l.present && local_words::in_tree(l.row, name) && n <= l.free
 }
 
 // The slot after j, round the slots from first up to end.
+#[tactic(auto, unfolding(rules::specs::Base::pick))]
 fn after(first: usize, end: usize, j: usize) -> usize
     requires { j < 2 ^ 32 }
     ensures { result ≡ pick (eqb (j + 1) end) first (j + 1) }

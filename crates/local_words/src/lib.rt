@@ -2,7 +2,7 @@
 #![tactic(auto)]
 
 ghost use Rattle.std.specs.Prelude.{◌≡◌, ◌^◌, ◌<◌, get_or, set};
-ghost use Rattle.rules.specs.Words.{local_at};
+ghost use Rattle.rules.specs.Words.{local_at, local_word};
 ghost use Rattle.rules.specs.Locals.{in_tree, local_row, local_swap, local_clear};
 ghost use Rattle.rules.specs.Base.{out};
 
@@ -12,19 +12,18 @@ use rules::Local;
 pub fn word(locals: &[u64], j: usize) -> u64
     ensures { result ≡ get_or locals.now j 0 }
 {
-    if j < locals.len() { locals[j] } else { 0 }
+    word_fields::word_at(locals, j, 0)
 }
 
-// A local has this word from now on.
-pub fn store(locals: &mut [u64], j: usize, w: u64)
-    ensures { locals.new ≡ set locals.old j w }
+// A slot has the word of this local from now on.
+pub fn keep(locals: &mut [u64], j: usize, l: Local)
+    ensures { locals.new ≡ set locals.old j (local_word l) }
 {
-    if j < locals.len() {
-        locals[j] = w;
-    }
+    word_fields::store_at(locals, j, word_fields::local_word(l));
 }
 
 // The local in a slot of the lent words.
+#[tactic(auto, unfolding(rules::specs::Words::local_of))]
 pub fn load(locals: &[u64], j: usize) -> Local
     ensures { (result ≡ local_at locals.now j) × ((result.row < 2 ^ 44) × (result.free < 2 ^ 19)) }
 {
@@ -32,6 +31,7 @@ pub fn load(locals: &[u64], j: usize) -> Local
 }
 
 // Whether a row is in the tree of the named frame, if one is named.
+#[tactic(auto, unfolding(rules::specs::Locals::in_tree))]
 pub fn in_tree(row: usize, name: Option<usize>) -> bool
     ensures { result ≡ in_tree 11 row name }
 {
@@ -42,32 +42,30 @@ pub fn in_tree(row: usize, name: Option<usize>) -> bool
 }
 
 // A local goes on from this row.
+#[tactic(auto, unfolding(rules::specs::Locals::local_row))]
 pub fn set_start(locals: &mut [u64], j: usize, row: usize)
     ensures { locals.new ≡ local_row locals.old j row }
 {
     let l = load(locals, j);
-    let moved = Local {
-        row: row,
-        free: l.free,
-        present: l.present,
-    };
-    store(locals, j, word_fields::local_word(moved));
+    keep(locals, j, Local { row, ..l });
 }
 
 // Store a local: the answer is the one that stood there.
+#[tactic(auto, unfolding(rules::specs::Locals::local_swap))]
 pub fn swap(locals: &mut [u64], j: usize, new: Local) -> Local
     ensures { (out result locals.new ≡ local_swap locals.old j new) × (result.free < 2 ^ 19) }
 {
     let old = load(locals, j);
-    store(locals, j, word_fields::local_word(new));
+    keep(locals, j, new);
     old
 }
 
 // A local becomes absent: the answer is the one that stood there.
+#[tactic(auto, unfolding(rules::specs::Locals::local_clear))]
 pub fn clear(locals: &mut [u64], j: usize) -> Local
     ensures { (out result locals.new ≡ local_clear locals.old j) × (result.free < 2 ^ 19) }
 {
     let gone = load(locals, j);
-    store(locals, j, 0);
+    word_fields::store_at(locals, j, 0);
     gone
 }

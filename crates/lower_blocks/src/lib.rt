@@ -19,14 +19,7 @@ fn zero_words(words: &[u64], at: usize, n: usize) -> bool
     requires { at + n ≤ length words.now }
     ensures { result ≡ eqb (held words.now (at * 64) (n * 64)) 0 }
 {
-    let mut i: usize = 0;
-    while i < n {
-        if words[at + i] != 0 {
-            return false;
-        }
-        i += 1;
-    }
-    true
+    words[at..at + n].iter().all(|w| *w == 0)
 }
 
 // Whether no frame of a block is held.

@@ -8,14 +8,12 @@ ghost use Rattle.law_rules.specs.Seek.{seek_in, passed_by};
 
 
 // Whether the search upward from a row passes over a block: all of it lies before the row, or every frame of it is held.
+#[tactic(auto, unfolding(law_rules::specs::Seek::passed_by))]
 fn passed(words: &[u64], order: usize, index: usize, row: usize) -> bool
     requires { (6 ≤ order) × Block words.now order index }
     ensures { result ≡ passed_by words.now order index row }
 {
-    if index < row >> (order - 6) {
-        return true;
-    }
-    lower_blocks::is_held(words, order, index)
+    index < row >> (order - 6) || lower_blocks::is_held(words, order, index)
 }
 
 // The first wholly free block of the order `want`, upward from the one that holds the row's first frame, in the block `index` of the order `order`: sought in its left half, then in its right half.

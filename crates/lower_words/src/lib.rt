@@ -11,11 +11,9 @@ fn held_words(words: &[u64], at: usize, n: usize) -> usize
     requires { (n ≤ 32) × (at + n ≤ length words.now) }
     ensures { result ≡ held words.now (at * 64) (n * 64) }
 {
-    let mut sum: usize = 0;
-    let mut i: usize = 0;
-    while i < n {
-        sum += u64::count_ones(words[at + i]) as usize;
-        i += 1;
+    let mut sum = 0;
+    for w in &words[at..at + n] {
+        sum += w.count_ones() as usize;
     }
     sum
 }
@@ -25,12 +23,10 @@ pub fn open_word(words: &[u64], at: usize, n: usize) -> usize
     requires { at + n ≤ length words.now }
     ensures { result ≡ open_from words.now at n }
 {
-    let mut i: usize = 0;
-    while i < n {
-        if words[at + i] != 0xffff_ffff_ffff_ffff {
-            return at + i;
+    for i in at..at + n {
+        if words[i] != u64::MAX {
+            return i;
         }
-        i += 1;
     }
     at + n
 }
@@ -47,7 +43,7 @@ pub fn full_words(words: &[u64], at: usize, n: usize) -> bool
 pub fn lowest_clear(w: u64) -> usize
     ensures { result ≡ lowest_clear 64 w }
 {
-    u64::trailing_zeros(0xffff_ffff_ffff_ffff - w) as usize
+    w.trailing_ones() as usize
 }
 
 // The number of clear bits of a tree.
@@ -63,12 +59,9 @@ pub fn past_held(words: &[u64], frame: usize) -> bool
     ensures { result ≡ eqb (held words.now frame (length words.now * 64 - frame)) (length words.now * 64 - frame) }
 {
     let at = frame / 64;
-    if at < words.len() {
-        let s = frame % 64;
-        if words[at] >> s == 0xffff_ffff_ffff_ffffu64 >> s {
-            return full_words(words, at + 1, words.len() - (at + 1));
-        }
-        return false;
+    if words.len() <= at {
+        return true;
     }
-    true
+    let s = frame % 64;
+    words[at] >> s == u64::MAX >> s && full_words(words, at + 1, words.len() - (at + 1))
 }

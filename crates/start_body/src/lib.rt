@@ -8,6 +8,7 @@ ghost use Rattle.rules_calls.specs.Calls.{fresh, free_at_start, fresh_state};
 use rules::Header;
 
 // How many frames are free: all free, or all held.
+#[tactic(auto, unfolding(rules_calls::specs::Calls::free_at_start))]
 fn free_at_start(free: bool, frames: usize) -> usize
     ensures { result ≡ free_at_start free frames }
 {

@@ -14,21 +14,21 @@ pub fn fill_trees(trees: &mut [u32], f: usize, default: usize)
     let whole = f / 2048;
     let full = start_words::tree_word_at(default, 2048, 0);
     if whole < n {
-        start_stores::fill_entries(trees, 0, whole, full);
-        start_stores::fill_entries(
+        start_stores::fill(trees, 0, whole, full);
+        start_stores::fill(
             trees,
             whole,
             whole + 1,
             start_words::tree_word_at(default, f, whole),
         );
-        start_stores::fill_entries(
+        start_stores::fill(
             trees,
             whole + 1,
             n,
             start_words::tree_word_at(default, 0, 0),
         );
     } else {
-        start_stores::fill_entries(trees, 0, n, full);
+        start_stores::fill(trees, 0, n, full);
     }
 }
 
@@ -36,8 +36,7 @@ pub fn fill_trees(trees: &mut [u32], f: usize, default: usize)
 pub fn fill_locals(locals: &mut [u64])
     ensures { locals.new ≡ listed (λ j. 0) 0 (length locals.old) }
 {
-    let n = locals.len();
-    start_stores::fill_words(locals, 0, n, 0);
+    locals.fill(0);
 }
 
 // Every bitmap word: those whose frames are all free, the one that the first f frames end in, the others.
@@ -48,10 +47,10 @@ pub fn fill_bits(bits: &mut [u64], f: usize)
     let n = bits.len();
     let whole = f / 64;
     if whole < n {
-        start_stores::fill_words(bits, 0, whole, 0);
-        start_stores::fill_words(bits, whole, whole + 1, start_words::bits_word_at(f, whole));
-        start_stores::fill_words(bits, whole + 1, n, 0xffff_ffff_ffff_ffff);
+        start_stores::fill(bits, 0, whole, 0);
+        start_stores::fill(bits, whole, whole + 1, start_words::bits_word_at(f, whole));
+        start_stores::fill(bits, whole + 1, n, u64::MAX);
     } else {
-        start_stores::fill_words(bits, 0, n, 0);
+        start_stores::fill(bits, 0, n, 0);
     }
 }

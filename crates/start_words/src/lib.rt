@@ -11,24 +11,17 @@ fn share(size: usize, f: usize, i: usize) -> usize
     requires { (size ≤ 2048) × (i < 2 ^ 32) }
     ensures { (result ≡ at_most size (f - size * i)) × (result ≤ size) }
 {
-    let before = size * i;
-    if f < before {
-        return 0;
-    }
-    if size <= f - before {
-        return size;
-    }
-    f - before
+    f.saturating_sub(size * i).min(size)
 }
 
 // The word of tree t, where the first f frames are free: default class, unreserved.
+#[tactic(auto, unfolding(rules_calls::specs::Calls::fresh_tree))]
 pub fn tree_word_at(default: usize, f: usize, t: usize) -> u32
     requires { t < 2 ^ 32 }
     ensures { result ≡ fresh_tree 11 default f t }
 {
-    let free = share(2048, f, t);
     word_fields::tree_word(Tree {
-        free: free,
+        free: share(2048, f, t),
         reserved: false,
         class: default,
     })
@@ -40,8 +33,5 @@ pub fn bits_word_at(f: usize, w: usize) -> u64
     ensures { result ≡ fresh_word f w }
 {
     let n = share(64, f, w);
-    if n < 64 {
-        return 0xffff_ffff_ffff_ffff - ((1u64 << n) - 1);
-    }
-    0
+    if n < 64 { u64::MAX << n } else { 0 }
 }

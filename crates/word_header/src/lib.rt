@@ -11,23 +11,25 @@ use rules::Header;
 pub fn wide(x: u8) -> usize
     ensures { (result ≡ x) × (result < 256) }
 {
-    x as usize
+    usize::from(x)
 }
 
 // Whether a class is configured: lent places, so that none are copied.
+#[tactic(auto, unfolding(rules::specs::Words::configured))]
 pub fn configured_in(places: &[u8; 8], class: usize) -> bool
     requires { class < 8 }
     ensures { result ≡ configured places.now class }
 {
-    0 < wide(places[class])
+    0 < places[class]
 }
 
 // The number of locals of a class, by lent places.
+#[tactic(auto, unfolding(rules::specs::Words::locals_of))]
 pub fn locals_in(places: &[u8; 8], class: usize) -> usize
     requires { class < 8 }
     ensures { (result ≡ locals_of places.now class) × (result < 256) }
 {
-    word_sizes::less(wide(places[class]), 1)
+    usize::from(places[class]).saturating_sub(1)
 }
 
 // Whether a class is configured.
@@ -35,8 +37,7 @@ pub fn is_configured(h: Header, class: usize) -> bool
     requires { class < 8 }
     ensures { result ≡ configured h.places class }
 {
-    let places = h.places;
-    configured_in(&places, class)
+    configured_in(&h.places, class)
 }
 
 // The number of locals of a class.
@@ -44,23 +45,24 @@ pub fn locals_of(h: Header, class: usize) -> usize
     requires { class < 8 }
     ensures { (result ≡ locals_of h.places class) × (result < 256) }
 {
-    let places = h.places;
-    locals_in(&places, class)
+    locals_in(&h.places, class)
 }
 
 // The slot of a class's first local in the lent words: as many locals stand before it.
+#[tactic(auto, unfolding(rules::specs::Base::sum))]
 pub fn first_slot(h: Header, class: usize) -> usize
     requires { class ≤ 8 }
     ensures { (result ≡ sum (locals_of h.places) 0 class) × (result < 2048) }
 {
     let mut first = 0;
     for k in 0..class {
-        first = first + locals_of(h, k);
+        first += locals_of(h, k);
     }
     first
 }
 
 // The slot of a local in the lent words, by class, then index.
+#[tactic(auto, unfolding(rules::specs::Words::slot))]
 pub fn slot(h: Header, class: usize, index: usize) -> usize
     requires { (class ≤ 8) × (index < 2 ^ 32) }
     ensures { result ≡ slot h.places class index }
@@ -69,6 +71,7 @@ pub fn slot(h: Header, class: usize, index: usize) -> usize
 }
 
 // The number of locals of all classes.
+#[tactic(auto, unfolding(rules::specs::Words::local_count))]
 pub fn local_count(h: Header) -> usize
     ensures { (result ≡ local_count h.places) × (result < 2048) }
 {
@@ -76,9 +79,10 @@ pub fn local_count(h: Header) -> usize
 }
 
 // The number of trees of so many frames, as a header may name them: 1,024 at most.
+#[tactic(auto, unfolding(rules::specs::Words::tree_count))]
 pub fn tree_count(frames: usize) -> usize
     requires { frames ≤ 2 ^ 21 }
     ensures { (result ≡ tree_count 11 frames) × ((0 < frames → 0 < result) × (result ≤ 1024)) }
 {
-    (frames + 2047) / 2048
+    frames.div_ceil(2048)
 }

@@ -15,5 +15,5 @@ pub fn size(order: usize) -> usize
 pub fn less(a: usize, b: usize) -> usize
     ensures { (result ≡ a - b) × (result ≤ a) }
 {
-    if b < a { a - b } else { 0 }
+    a.saturating_sub(b)
 }

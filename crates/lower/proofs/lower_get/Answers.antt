@@ -1,9 +1,7 @@
 -- `lower::lower_get` meets its contract. Assumes nothing.
-use native.Mathlib.Omega.{arith}
-use mathlib.Core.Path.{sym, ◌∙◌}
+use Rattle.std.proofs.Common.{arith, sym, ◌∙◌}
 use Rattle.law_rules.specs.Lower.{find-is}
 use Rattle.law_rules.specs.Tests.{start_small}
-use Rattle.rules.specs.Lower.{lower_get, lower_take}
 use Rattle.lower.proofs.lower_get.Goals as goal
 
 pub overflow_mul-f : goal.overflow_mul-f
@@ -11,22 +9,3 @@ overflow_mul-f c = let b = find-is 11 _ _ (omega arith) (omega arith) c.requires
 
 pub hold-requires : goal.hold-requires
 hold-requires c = let b = find-is 11 _ _ (omega arith) (omega arith) c.requires _ _ _ (sym c.find_block.ensures ∙ c.in_ok-j.was) in record { block = b.block; block_value = b.free }
-
-pub returns : goal.returns
-unfolding lower_get lower_take
-returns c =
-    rw (
-      ← c.find_block.ensures,
-      c.in_ok-j.was,
-      ← c.size.ensures.0,
-      ← c.hold.ensures,
-    )
-
-pub returns-in_err-j : goal.returns-in_err-j
-unfolding lower_get lower_take
-returns-in_err-j c =
-    rw (
-      ← c.find_block.ensures,
-      c.in_err-j.was,
-      c.from_residual.ensures,
-    )

@@ -1,26 +1,30 @@
 -- What the goals of `lower_words::held_words` follow from. Assumes nothing.
-use borrow.Author.Rules.{rules}
-use mathlib.Core.Path.{◌≡◌, sym}
-use Prim.Native.Nat.{◌*◌, ◌+◌}
-use native.Mathlib.Omega.{arith}
-use lib.Count.{ones-le}
-use Rattle.law_rules.specs.Sum.{sum-none}
-use Rattle.rules.specs.Lower.{held, bit}
+use Rattle.std.proofs.Common.{◌≡◌, List, ℕ, ◌+◌, ◌*◌, ◌<◌, ◌≤◌, ◌^◌, get_or, length, arith}
+use lib.Count.{ones}
+use Rattle.rules.specs.Lower.{held}
+use Rattle.law_rules.specs.Run.{run_none}
 use Rattle.law_rules.specs.Held.{held_more, held-le}
+use Rattle.lower_words.specs.Part.{part, part-length, part-at}
 use Rattle.lower_words.proofs.held_words.Goals as goal
 
-pub loop-i-init : goal.loop-i-init
-unfolding held
-loop-i-init c = (search rules, sym (sum-none (bit c.args.words.now) (c.args.at * 64)))
+-- one word more
+more : (ws : List ℕ) (a n i : ℕ) → a + n ≤ length ws → i < length (part ws a n) → get_or ws (a + i) 0 < 2 ^ 64
+    → held ws (a * 64) (i * 64) + ones (get_or (part ws a n) i 0) ≡ held ws (a * 64) ((i + 1) * 64)
+more ws a n i m l h = rw (part-at ws a n i (omega (arith, part-length ws a n m))) (held_more ws a i h)
 
-pub overflow_cast-sum : goal.overflow_cast-sum
-overflow_cast-sum c = omega (arith, ones-le 64 _ (c.type_inv.words (c.args.at + c.loop-i.i)).fits)
+pub loop-w-init : goal.loop-w-init
+loop-w-init c = omega (arith, run_none c.args.words.now (c.args.at * 64))
 
-pub overflow_add-sum-in-loop-i : goal.overflow_add-sum-in-loop-i
-overflow_add-sum-in-loop-i c = omega (arith, ones-le 64 _ (c.type_inv.words (c.args.at + c.loop-i.i)).fits, held-le c.args.words.now (c.args.at * 64) (c.loop-i.i * 64))
+pub overflow_add-sum : goal.overflow_add-sum
+overflow_add-sum c =
+    let h = (c.type_inv.words (c.args.at + c.loop-w.w-index)).fits in
+    omega (arith, more _ _ _ _ c.requires.1 c.loop-w-test.true h, held-le c.args.words.now (c.args.at * 64) ((c.loop-w.w-index + 1) * 64), part-length _ _ _ c.requires.1)
 
-pub loop-i-preserved : goal.loop-i-preserved
-loop-i-preserved c = omega (arith, held_more c.args.words.now c.args.at c.loop-i.i (c.type_inv.words (c.args.at + c.loop-i.i)).fits)
+pub loop-w-preserved : goal.loop-w-preserved
+loop-w-preserved c =
+    let h = (c.type_inv.words (c.args.at + c.loop-w.w-index)).fits in
+    omega (arith, more _ _ _ _ c.requires.1 c.loop-w-test.true h)
 
 pub returns : goal.returns
-returns c = let q : c.loop-i.i ≡ c.args.n = omega arith in rw q at c.loop-i.invariant.1
+returns c =
+    let q : c.loop-w.w-index ≡ c.args.n = omega (arith, part-length _ _ _ c.requires.1) in rw q at c.loop-w.invariant

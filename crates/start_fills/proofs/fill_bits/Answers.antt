@@ -5,17 +5,17 @@ use Rattle.start_stores.specs.Fill.{all-filled, parts-filled}
 use Rattle.start_words.specs.Share.{word-free, word_held}
 use Rattle.start_fills.proofs.fill_bits.Goals as goal
 
-pub fill_words-requires-then-whole-n : goal.fill_words-requires-then-whole-n
-fill_words-requires-then-whole-n c = (search rules, omega (arith, c.fill_words.ensures.len))
+pub fill-requires-then-whole-n : goal.fill-requires-then-whole-n
+fill-requires-then-whole-n c = (search rules, omega (arith, c.fill.ensures.len))
 
-pub fill_words-requires-then-whole-n-2 : goal.fill_words-requires-then-whole-n-2
-fill_words-requires-then-whole-n-2 c = (omega arith, omega (arith, c.fill_words.ensures.len, c.fill_words-then-whole-n.ensures.len))
+pub fill-requires-then-whole-n-2 : goal.fill-requires-then-whole-n-2
+fill-requires-then-whole-n-2 c = (omega arith, omega (arith, c.fill.ensures.len, c.fill-then-whole-n.ensures.len))
 
 pub returns-then-whole-n : goal.returns-then-whole-n
 returns-then-whole-n c =
     parts-filled _ c.args.bits.now _ _ _ _ _ _ _ c.if-whole-n.true
     (λ i l. word-free c.args.f i l) c.bits_word_at.ensures (λ i l. word_held c.args.f i l)
-    c.fill_words.ensures c.fill_words-then-whole-n.ensures c.fill_words-then-whole-n-2.ensures
+    c.fill.ensures c.fill-then-whole-n.ensures c.fill-then-whole-n-2.ensures
 
 pub returns-else-whole-n : goal.returns-else-whole-n
-returns-else-whole-n c = all-filled _ c.args.bits.now _ _ (λ i l. word-free c.args.f i (omega arith)) c.fill_words-else-whole-n.ensures
+returns-else-whole-n c = all-filled _ c.args.bits.now _ _ (λ i l. word-free c.args.f i (omega arith)) c.fill-else-whole-n.ensures

@@ -1,0 +1,2 @@
+-- laws of a part of the words, as a loop over it reads them
+pub mod Part
