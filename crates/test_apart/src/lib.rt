@@ -12,8 +12,7 @@ pub fn apart(locals: &[u64]) -> bool
     ensures { result ≡ all_below (length locals.now) (apart_before 11 locals.now) }
 {
     let mut marks = [0u64; 16];
-    let mut j: usize = 0;
-    while j < locals.len() {
+    for j in 0..locals.len() {
         let l = local_words::load(locals, j);
         if l.present {
             let tree = l.row / 32;
@@ -22,16 +21,8 @@ pub fn apart(locals: &[u64]) -> bool
             }
             lower_marks::hold(&mut marks, 0, tree);
         }
-        j += 1;
     }
     true
-}
-
-// 1 for true.
-fn bit_of(b: bool) -> usize
-    ensures { (result ≡ bit_of b) × (result ≤ 1) }
-{
-    if b { 1 } else { 0 }
 }
 
 // The number of reserved entries.
@@ -39,11 +30,8 @@ pub fn reserved_count(trees: &[u32]) -> usize
     ensures { result ≡ reserved_count trees.now (length trees.now) }
 {
     let mut reserved: usize = 0;
-    let mut t: usize = 0;
-    while t < trees.len() {
-        let e = tree_words::load(trees, t);
-        reserved += bit_of(e.reserved);
-        t += 1;
+    for t in 0..trees.len() {
+        reserved += usize::from(tree_words::load(trees, t).reserved);
     }
     reserved
 }
@@ -53,11 +41,8 @@ pub fn present_count(locals: &[u64]) -> usize
     ensures { result ≡ present_count locals.now (length locals.now) }
 {
     let mut present: usize = 0;
-    let mut j: usize = 0;
-    while j < locals.len() {
-        let l = local_words::load(locals, j);
-        present += bit_of(l.present);
-        j += 1;
+    for j in 0..locals.len() {
+        present += usize::from(local_words::load(locals, j).present);
     }
     present
 }
