@@ -1,5 +1,5 @@
 // The standing rules as a test of the whole state: one pass over the bitmap, two over the entries, three over the locals.
-#![tactic(auto)]
+#![tactic(auto, using(std::proofs::lemmas::Bool::Decides::nat_tests), unfolding(rules_calls::specs::Standing::standing, rules_calls::specs::Standing::past_held))]
 
 ghost use Rattle.std.specs.Prelude.{◌≡◌};
 ghost use Rattle.rules.specs.Words.{config};
