@@ -1,5 +1,5 @@
 // The list of the best trees of a walk, by value: what it is ordered by, and a tree admitted to it.
-#![tactic(auto)]
+#![tactic(auto, using(std::proofs::lemmas::Bool::Decides::nat_tests))]
 
 ghost use Rattle.std.specs.Prelude.{◌≡◌, ◌+◌, ◌*◌, ◌^◌, ◌<◌, ◌≤◌, eqb};
 ghost use Rattle.rules.specs.Base.{bit_of};
@@ -11,7 +11,7 @@ pub fn key(r: usize, free: usize) -> usize
     requires { r ≤ 258 }
     ensures { (result ≡ 2 * r + bit_of (eqb free 2048)) × ((r ≤ result) × (result < 1024)) }
 {
-    if free == 2048 { 2 * r + 1 } else { 2 * r }
+    2 * r + usize::from(free == 2048)
 }
 
 // A list of the best m, a rated tree offered: it goes before the first that is strictly worse, the last of a full list falls out.
@@ -22,18 +22,13 @@ pub fn admit(best: [u64; 8], m: usize, key: usize, t: usize) -> [u64; 8]
     let mut s = best;
     let mut moving = key as u64 * 0x1_0000_0000 + t as u64;
     let mut inside = false;
-    let mut k: usize = 0;
-    while k < m {
+    for k in 0..m {
         let y = s[k];
+        inside |= y / 0x1_0000_0000 < moving / 0x1_0000_0000;
         if inside {
             s[k] = moving;
             moving = y;
-        } else if y / 0x1_0000_0000 < moving / 0x1_0000_0000 {
-            s[k] = moving;
-            moving = y;
-            inside = true;
         }
-        k += 1;
     }
     s
 }

@@ -1,5 +1,5 @@
 -- Laws of computed tests: `both`, `implies`, `pick`, and a test at every number below n. Assumes nothing.
-use Rattle.std.specs.Prelude.{◌≡◌, refl, Bool, true, false, ℕ, zero, suc, ◌+◌, ◌<◌, ◌≤◌, eqb}
+use Rattle.std.specs.Prelude.{◌≡◌, refl, Bool, true, false, not, ℕ, zero, suc, ◌+◌, ◌<◌, ◌≤◌, eqb}
 use Rattle.std.proofs.Common.{ap, sym, ◌∙◌, true≢false, ⊎_elim, le_of_suc-le-suc, not-suc-le-zero, eq-or-lt_of_le, lt-suc_self, add-one, arith, eq-eqb, eqb-true}
 use Rattle.std.specs.Int.Bits.{bit_or, or_zero_l, or_add_and}
 use Rattle.std.proofs.lemmas.Nat.{and_le_l, and_le_r}
@@ -111,3 +111,11 @@ all_same (suc n) f g h = simp (all_same n f g (λ k l. h k (omega arith)), h n (
 -- a loop that has passed all of them
 pub all_done : (n k : ℕ) (f : ℕ → Bool) → k ≤ n → n ≤ k → all_below k f ≡ true → all_below n f ≡ true
 all_done n k f l m h = let q : k ≡ n = omega arith in rw q at h
+
+-- a loop that stops at a number whose test fails
+pub all_stop : (n : ℕ) (f : ℕ → Bool) (k : ℕ) (r : Bool) → k < n → r ≡ f k → not r ≡ true → false ≡ all_below n f
+all_stop n f k true l e h = absurd (true≢false (sym h))
+all_stop n f k false l e h = sym (all-fails n f k l (sym e))
+
+-- the laws that a loop over a test goes by: before the first number, one more, all passed
+pub ruleset all_loop = (all_none, all_more, all-next, all_done)

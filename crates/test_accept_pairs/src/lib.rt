@@ -1,5 +1,17 @@
 // What the acceptance test asks of one pair of the policy table: its form, and the rules of good pairs.
-#![tactic(auto)]
+#![tactic(
+    auto,
+    using(std::proofs::lemmas::Bool::Decides::nat_tests, law_rules::specs::All::all_loop),
+    unfolding(
+        rules::specs::Policy::good,
+        rules::specs::Policy::pair_formed,
+        rules::specs::Policy::kind_of,
+        rules::specs::Policy::cut_of,
+        law_rules::specs::Rows::leads_back,
+        law_rules::specs::Rows::covers,
+        law_rules::specs::Rows::demote_covers,
+    )
+)]
 
 ghost use Rattle.std.specs.Prelude.{◌≡◌, ◌<◌};
 ghost use Rattle.rules.specs.Words.{config};
@@ -14,9 +26,10 @@ pub fn formed(w: u32) -> bool
     ensures { result ≡ pair_formed 11 w }
 {
     if w % 4 == 3 {
-        return w / 4 % 16384 <= 2048;
+        w / 4 % 16384 <= 2048
+    } else {
+        w < 4
     }
-    w < 4
 }
 
 // If (e, f) is good then (o, f) is good.
@@ -24,10 +37,7 @@ fn pair_covered(table: &[u32; 64], o: usize, e: usize, f: usize) -> bool
     requires { (o < 8) × ((e < 8) × (f < 8)) }
     ensures { (h : Header) → result ≡ pair_covered (config h table.now) o e f }
 {
-    if 2 <= word_policy::kind_at(table, e, f) {
-        return 2 <= word_policy::kind_at(table, o, f);
-    }
-    true
+    word_policy::kind_at(table, e, f) < 2 || 2 <= word_policy::kind_at(table, o, f)
 }
 
 // Every class that e is good with, o is good with.
@@ -35,12 +45,10 @@ fn covers(table: &[u32; 64], o: usize, e: usize) -> bool
     requires { (o < 8) × (e < 8) }
     ensures { (h : Header) → result ≡ covers (config h table.now) o e }
 {
-    let mut f: usize = 0;
-    while f < 8 {
+    for f in 0..8 {
         if !pair_covered(table, o, e, f) {
             return false;
         }
-        f += 1;
     }
     true
 }
@@ -50,13 +58,9 @@ pub fn leads_back(h: Header, table: &[u32; 64], o: usize, e: usize) -> bool
     requires { (h.default < 8) × ((o < 8) × (e < 8)) }
     ensures { result ≡ leads_back (config h table.now) o e }
 {
-    if 2 <= word_policy::kind_at(table, o, e) {
-        if 0 < word_policy::kind_at(table, e, h.default) {
-            return 2 <= word_policy::kind_at(table, o, h.default);
-        }
-        return true;
-    }
-    true
+    word_policy::kind_at(table, o, e) < 2
+        || word_policy::kind_at(table, e, h.default) == 0
+        || 2 <= word_policy::kind_at(table, o, h.default)
 }
 
 // The third rule at (o, e): if it is Demote then o covers e.
@@ -64,8 +68,5 @@ pub fn demote_covers(table: &[u32; 64], o: usize, e: usize) -> bool
     requires { (o < 8) × (e < 8) }
     ensures { (h : Header) → result ≡ demote_covers (config h table.now) o e }
 {
-    if word_policy::kind_at(table, o, e) == 2 {
-        return covers(table, o, e);
-    }
-    true
+    word_policy::kind_at(table, o, e) != 2 || covers(table, o, e)
 }

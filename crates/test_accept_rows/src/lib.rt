@@ -1,5 +1,5 @@
 // The policy table as the acceptance test walks it, row by row: each pair of a configured class accepted, those of an unconfigured one zero.
-#![tactic(auto)]
+#![tactic(auto, using(std::proofs::lemmas::Bool::Decides::nat_tests, law_rules::specs::All::all_loop), unfolding(rules::specs::Policy::good, law_rules::specs::Rows::cell_accepted, law_rules::specs::Rows::row_accepted, law_rules::specs::Rows::row_empty))]
 
 ghost use Rattle.std.specs.Prelude.{◌≡◌, ◌<◌};
 ghost use Rattle.rules.specs.Base.{all_below};
@@ -14,16 +14,14 @@ fn cell_accepted(h: Header, places: &[u8; 8], table: &[u32; 64], o: usize, e: us
     requires { (places.now ≡ h.places) × ((h.default < 8) × ((o < 8) × (e < 8))) }
     ensures { result ≡ cell_accepted (config h table.now) o e }
 {
+    let pair = word_policy::pair_at(table, o, e);
     if word_header::configured_in(places, e) {
-        if test_accept_pairs::formed(word_policy::pair_at(table, o, e)) {
-            if test_accept_pairs::leads_back(h, table, o, e) {
-                return test_accept_pairs::demote_covers(table, o, e);
-            }
-            return false;
-        }
-        return false;
+        test_accept_pairs::formed(pair)
+            && test_accept_pairs::leads_back(h, table, o, e)
+            && test_accept_pairs::demote_covers(table, o, e)
+    } else {
+        pair == 0
     }
-    word_policy::pair_at(table, o, e) == 0
 }
 
 // The eight pairs of a configured class o.
@@ -31,12 +29,10 @@ fn cells_accepted(h: Header, places: &[u8; 8], table: &[u32; 64], o: usize) -> b
     requires { (places.now ≡ h.places) × ((h.default < 8) × (o < 8)) }
     ensures { result ≡ all_below 8 (cell_accepted (config h table.now) o) }
 {
-    let mut e: usize = 0;
-    while e < 8 {
+    for e in 0..8 {
         if !cell_accepted(h, places, table, o, e) {
             return false;
         }
-        e += 1;
     }
     true
 }
@@ -47,10 +43,8 @@ fn row_empty(table: &[u32; 64], o: usize) -> bool
     ensures { (h : Header) → result ≡ row_empty (config h table.now) o }
 {
     let mut any: u32 = 0;
-    let mut e: usize = 0;
-    while e < 8 {
-        any = any | word_policy::pair_at(table, o, e);
-        e += 1;
+    for e in 0..8 {
+        any |= word_policy::pair_at(table, o, e);
     }
     any == 0
 }
@@ -61,12 +55,10 @@ fn row_accepted(h: Header, places: &[u8; 8], table: &[u32; 64], o: usize) -> boo
     ensures { result ≡ row_accepted (config h table.now) o }
 {
     if word_header::configured_in(places, o) {
-        if 2 <= word_policy::kind_at(table, o, o) {
-            return cells_accepted(h, places, table, o);
-        }
-        return false;
+        2 <= word_policy::kind_at(table, o, o) && cells_accepted(h, places, table, o)
+    } else {
+        row_empty(table, o)
     }
-    row_empty(table, o)
 }
 
 // The table: its form and the three rules.
@@ -74,12 +66,10 @@ pub fn rows_accepted(h: Header, places: &[u8; 8], table: &[u32; 64]) -> bool
     requires { (places.now ≡ h.places) × (h.default < 8) }
     ensures { result ≡ all_below 8 (row_accepted (config h table.now)) }
 {
-    let mut o: usize = 0;
-    while o < 8 {
+    for o in 0..8 {
         if !row_accepted(h, places, table, o) {
             return false;
         }
-        o += 1;
     }
     true
 }
