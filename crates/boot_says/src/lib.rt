@@ -170,7 +170,9 @@ fn all_free(free: usize, frames: usize) {
 // The answer to statistics on a board of so many frames, with the rows of its two classes.
 pub fn figures(frames: usize, report: Result<Stats, Refusal>) {
     match report {
-        Ok(Stats { totals: t, rows }) => {
+        Ok(stats) => {
+            let rows = stats.rows;
+            let t = stats.totals;
             outcome(b"statistics", Ok(()));
             totals(t.free, t.trees);
             row(0, rows[0]);

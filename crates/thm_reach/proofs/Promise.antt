@@ -1,5 +1,5 @@
 -- The same of every answer that the promise of `get` allows. Assumes nothing.
-use Rattle.std.specs.Prelude.{◌≡◌, true, List, ℕ, None, Result, Err}
+use Rattle.std.specs.Prelude.{◌≡◌, true, List, ℕ, None, Result, Err, Ok}
 use Rattle.std.proofs.Common.{sym, ap, ◌∙◌, arith}
 use Rattle.rules.specs.Words.{config}
 use Rattle.rules.specs.declared.Header.{Header}

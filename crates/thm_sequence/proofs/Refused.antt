@@ -1,5 +1,5 @@
 -- A call that is not Done, Memory or Stuck leaves the words, whatever they are, and what else it is lent. Assumes nothing.
-use Rattle.std.specs.Prelude.{◌≡◌, refl, Bool, ◌≢◌, List, ℕ, ◌/◌, ◌^◌, eqb, length, Option, Result, Err, ⊤}
+use Rattle.std.specs.Prelude.{◌≡◌, refl, Bool, ◌≢◌, List, ℕ, ◌/◌, ◌^◌, eqb, length, Option, Result, Err, ⊤, Ok}
 use Rattle.std.proofs.Common.{sym, ap, ◌∙◌, subst}
 use Rattle.std.proofs.Math.Bool.{true, false}
 use Rattle.rules.specs.Base.{pick, both, Out, out}
