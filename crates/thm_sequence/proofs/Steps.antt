@@ -137,7 +137,7 @@ module _ (c : Config) (sz : Size c.tree_order) (held : ℕ → Bool) (s : Words)
             ∙ sym (ap (λ (y : ℕ). clear c.tree_order s.bits t + frames_in c.tree_order t q.order y) D.frame);
         once = λ x n.
             let n' : in_block q.order (D.block * 2 ^ q.order) x ≡ true = subst (λ (y : ℕ). in_block q.order y x ≡ true) D.frame n in
-            let v = in-block q.order u.frame x n in
+            let v = in-block q.order f x n in
             bit-true (held x) (A.agree x (omega (arith, v.1, D.below)) ∙ held-frame s.bits q.order D.block D.inside D.held x n');
         sound = λ z. omega (arith, z);
         loose = λ z. omega (arith, z);
