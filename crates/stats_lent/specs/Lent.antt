@@ -14,13 +14,10 @@ use Rattle.rules_calls.specs.Standing.{standing}
 use Rattle.rules_calls.specs.Statistics.{total_free, free_trees, tallies, told_totals, statistics}
 use Rattle.rules_calls.specs.Promises.{words}
 use Rattle.law_rules.specs.Cases.{below_or}
+use Rattle.stats_rows.specs.Rows.{zero_row}
 use Rattle.stats_told.specs.declared.Stats.{Stats}
 use Rattle.stats_told.specs.Stats.{stats_of}
 use Rattle.thm_complete.specs.Complete.{statistics-complete}
-
--- a row of zeros
-abbrev pub zero_row : Tally
-zero_row = record { free = 0; alloc = 0; used = 0 }
 
 -- sixteen of them
 abbrev pub zeros : List Tally

@@ -6,15 +6,8 @@ ghost use Rattle.rules.specs.Words.{config};
 ghost use Rattle.stats_told.specs.Stats.{stats_of};
 
 use rules::Header;
-use rules_calls::{Refusal, Tally};
+use rules_calls::Refusal;
 use stats_told::Stats;
-
-// A row of zeros.
-const ZERO: Tally = Tally {
-    free: 0,
-    alloc: 0,
-    used: 0,
-};
 
 // Statistics, lent so many rows, at most sixteen.
 pub fn report<'a>(
@@ -27,10 +20,10 @@ pub fn report<'a>(
 ) -> Result<Stats, Refusal>
     ensures { result ≡ stats_of (config h table.now) trees.now locals.now bits.now n }
 {
-    let mut lent = [ZERO; 16];
+    let mut lent = [stats_rows::ZERO; 16];
     let m = n.min(16);
     let totals = statistics::statistics(h, table, trees, locals, bits, &mut lent[..m])?;
-    let mut rows = [ZERO; 8];
+    let mut rows = [stats_rows::ZERO; 8];
     rows.copy_from_slice(&lent[..8]);
     Ok(Stats { totals, rows })
 }

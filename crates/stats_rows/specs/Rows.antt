@@ -23,8 +23,29 @@ pub row_is : (c : Config) (ts ls : List ℕ) (e : Entries) (held : List ℕ) (k 
 unfolding row_of tally entry_free entry_alloc in_use over_class reserved_free free_at alloc_at tree_at held_on
 row_is c ts ls e held k l a b d g = rw (a.sums k l, b.sums k l, d.sums k l, g.sums k l)
 
--- the eight rows of the definition, row by row
-pub eight : (c : Config) (ts ls : List ℕ) {a b d e g h i j : Tally} → a ≡ tally c ts ls 0 → b ≡ tally c ts ls 1 → d ≡ tally c ts ls 2 → e ≡ tally c ts ls 3
-    → g ≡ tally c ts ls 4 → h ≡ tally c ts ls 5 → i ≡ tally c ts ls 6 → j ≡ tally c ts ls 7 → a ∷ b ∷ d ∷ e ∷ g ∷ h ∷ i ∷ j ∷ [] ≡ tallies c ts ls 0 8
+-- a row of zeros
+abbrev pub zero_row : Tally
+zero_row = record { free = 0; alloc = 0; used = 0 }
+
+-- eight rows, each that of its class, are the rows of the definition
+pub rows-tallies : (c : Config) (ts ls : List ℕ) (rows : List Tally) → length rows ≡ 8 → ((k : ℕ) → k < 8 → get_or rows k zero_row ≡ tally c ts ls k) → rows ≡ tallies c ts ls 0 8
 unfolding tallies
-eight c ts ls p q r s t u v w = rw (p, q, r, s, t, u, v, w)
+rows-tallies c ts ls (a ∷ b ∷ d ∷ e ∷ f ∷ g ∷ h ∷ i ∷ []) n r =
+    let p : a ≡ tally c ts ls 0 = r 0 (omega arith) in
+    let q : b ≡ tally c ts ls 1 = r 1 (omega arith) in
+    let s : d ≡ tally c ts ls 2 = r 2 (omega arith) in
+    let t : e ≡ tally c ts ls 3 = r 3 (omega arith) in
+    let u : f ≡ tally c ts ls 4 = r 4 (omega arith) in
+    let v : g ≡ tally c ts ls 5 = r 5 (omega arith) in
+    let w : h ≡ tally c ts ls 6 = r 6 (omega arith) in
+    let x : i ≡ tally c ts ls 7 = r 7 (omega arith) in
+    rw (p, q, s, t, u, v, w, x)
+rows-tallies c ts ls [] n r = absurd (omega arith)
+rows-tallies c ts ls (a ∷ []) n r = absurd (omega arith)
+rows-tallies c ts ls (a ∷ b ∷ []) n r = absurd (omega arith)
+rows-tallies c ts ls (a ∷ b ∷ d ∷ []) n r = absurd (omega arith)
+rows-tallies c ts ls (a ∷ b ∷ d ∷ e ∷ []) n r = absurd (omega arith)
+rows-tallies c ts ls (a ∷ b ∷ d ∷ e ∷ f ∷ []) n r = absurd (omega arith)
+rows-tallies c ts ls (a ∷ b ∷ d ∷ e ∷ f ∷ g ∷ []) n r = absurd (omega arith)
+rows-tallies c ts ls (a ∷ b ∷ d ∷ e ∷ f ∷ g ∷ h ∷ []) n r = absurd (omega arith)
+rows-tallies c ts ls (a ∷ b ∷ d ∷ e ∷ f ∷ g ∷ h ∷ i ∷ j ∷ l) n r = absurd (omega arith)

@@ -1,80 +1,25 @@
 -- `stats_rows::all_rows` meets its contract. Assumes nothing.
-use mathlib.Core.Path.{◌≡◌, ◌∙◌}
-use Prim.Native.Nat.{ℕ, ◌<◌}
-use native.Mathlib.Omega.{arith}
+use Rattle.std.proofs.Common.{◌≡◌, ◌∙◌, ℕ, ◌<◌, arith, below_more, length-set, get_or-set_same, get_or-set_other}
 use Rattle.rules.specs.Words.{config}
-use Rattle.rules_calls.specs.Statistics.{local_free, tally}
-use Rattle.stats_by_class.specs.Sums.{summed-few}
-use Rattle.stats_rows.specs.Rows.{row_of, row_is, eight}
-use borrow.Author.Rules.{rules}
+use Rattle.stats_rows.specs.Rows.{row_is, rows-tallies}
 use Rattle.stats_rows.proofs.all_rows.Goals as goal
 
 pub entries_by_class-e-requires : goal.entries_by_class-e-requires
 entries_by_class-e-requires c = c.tree_count.ensures.1.1
 
-pub class_row-requires : goal.class_row-requires
-class_row-requires c =
-    let e = c.entries_by_class-e.ensures in
-    let n = c.tree_count.ensures.1.1 in
-    (search rules, (summed-few _ _ _ _ (omega arith) n e.0 0 (omega arith), summed-few _ _ _ _ (omega arith) n e.1.1 0 (omega arith)))
-
-pub class_row-requires-2 : goal.class_row-requires-2
-class_row-requires-2 c =
-    let e = c.entries_by_class-e.ensures in
-    let n = c.tree_count.ensures.1.1 in
-    (search rules, (summed-few _ _ _ _ (omega arith) n e.0 1 (omega arith), summed-few _ _ _ _ (omega arith) n e.1.1 1 (omega arith)))
-
-pub class_row-requires-3 : goal.class_row-requires-3
-class_row-requires-3 c =
-    let e = c.entries_by_class-e.ensures in
-    let n = c.tree_count.ensures.1.1 in
-    (search rules, (summed-few _ _ _ _ (omega arith) n e.0 2 (omega arith), summed-few _ _ _ _ (omega arith) n e.1.1 2 (omega arith)))
-
-pub class_row-requires-4 : goal.class_row-requires-4
-class_row-requires-4 c =
-    let e = c.entries_by_class-e.ensures in
-    let n = c.tree_count.ensures.1.1 in
-    (search rules, (summed-few _ _ _ _ (omega arith) n e.0 3 (omega arith), summed-few _ _ _ _ (omega arith) n e.1.1 3 (omega arith)))
-
-pub class_row-requires-5 : goal.class_row-requires-5
-class_row-requires-5 c =
-    let e = c.entries_by_class-e.ensures in
-    let n = c.tree_count.ensures.1.1 in
-    (search rules, (summed-few _ _ _ _ (omega arith) n e.0 4 (omega arith), summed-few _ _ _ _ (omega arith) n e.1.1 4 (omega arith)))
-
-pub class_row-requires-6 : goal.class_row-requires-6
-class_row-requires-6 c =
-    let e = c.entries_by_class-e.ensures in
-    let n = c.tree_count.ensures.1.1 in
-    (search rules, (summed-few _ _ _ _ (omega arith) n e.0 5 (omega arith), summed-few _ _ _ _ (omega arith) n e.1.1 5 (omega arith)))
-
-pub class_row-requires-7 : goal.class_row-requires-7
-class_row-requires-7 c =
-    let e = c.entries_by_class-e.ensures in
-    let n = c.tree_count.ensures.1.1 in
-    (search rules, (summed-few _ _ _ _ (omega arith) n e.0 6 (omega arith), summed-few _ _ _ _ (omega arith) n e.1.1 6 (omega arith)))
-
-pub class_row-requires-8 : goal.class_row-requires-8
-class_row-requires-8 c =
-    let e = c.entries_by_class-e.ensures in
-    let n = c.tree_count.ensures.1.1 in
-    (search rules, (summed-few _ _ _ _ (omega arith) n e.0 7 (omega arith), summed-few _ _ _ _ (omega arith) n e.1.1 7 (omega arith)))
-
-pub returns : goal.returns
-returns c = λ pairs.
+pub loop-class-preserved : goal.loop-class-preserved
+loop-class-preserved c =
+    let l = c.loop-class in
     let e = c.entries_by_class-e.ensures in
     let n = c.tree_count.ensures.0 in
-    let g = c.reserved_by_class-held.ensures in
     let m = c.local_count.ensures.0 in
-    let x = config c.args.h pairs in
-    let row : (k : ℕ) → k < 8 → row_of 11 c.entries_by_class-e.result (local_free x c.args.locals.now k) c.reserved_by_class-held.result k ≡ tally x c.args.trees.now c.args.locals.now k =
-    λ k l. row_is x c.args.trees.now c.args.locals.now c.entries_by_class-e.result c.reserved_by_class-held.result k l (rw (← n) e.0) (rw (← n) e.1.0) (rw (← n) e.1.1) (rw (← m) g) in
-    eight x c.args.trees.now c.args.locals.now
-    (c.class_row.ensures pairs ∙ row 0 (omega arith))
-    (c.class_row-2.ensures pairs ∙ row 1 (omega arith))
-    (c.class_row-3.ensures pairs ∙ row 2 (omega arith))
-    (c.class_row-4.ensures pairs ∙ row 3 (omega arith))
-    (c.class_row-5.ensures pairs ∙ row 4 (omega arith))
-    (c.class_row-6.ensures pairs ∙ row 5 (omega arith))
-    (c.class_row-7.ensures pairs ∙ row 6 (omega arith))
-    (c.class_row-8.ensures pairs ∙ row 7 (omega arith))
+    record {
+      eight = length-set l.rows l.class _ ∙ l.invariant.eight;
+      below = λ pairs. below_more _ _
+          (λ k lt. get_or-set_other l.rows l.class k _ _ (λ same. omega arith) ∙ l.invariant.below pairs k lt)
+          (get_or-set_same l.rows l.class _ _ (omega (arith, l.invariant.eight)) ∙ c.class_row.ensures pairs
+          ∙ row_is (config c.args.h pairs) _ _ _ _ _ c.loop-class-test.true (rw (← n) e.0) (rw (← n) e.1.0) (rw (← n) e.1.1) (rw (← m) c.reserved_by_class-held.ensures));
+    }
+
+pub returns : goal.returns
+returns c = λ pairs. rows-tallies _ _ _ _ c.loop-class.invariant.eight (λ k lt. c.loop-class.invariant.below pairs k (omega (arith, c.loop-class-test.false)))
