@@ -182,17 +182,6 @@ pub fn fill(mut words: Words) -> Option<Store> {
     })
 }
 
-// start free, start held
-pub fn start(mut words: Words) -> Option<Call> {
-    let all_free = match words.next()? {
-        b"free" => true,
-        b"held" => false,
-        _ => return None,
-    };
-    words.end()?;
-    Some(Call::Start(all_free))
-}
-
 // The frame that a get names.
 fn name(frame: Option<u64>) -> Name {
     match frame {

@@ -3,8 +3,10 @@
 
 mod buffer;
 
-ghost use Rattle.std.specs.Prelude.{◌≤◌, IfSome, length};
-ghost use Rattle.std.specs.Iterator.{at_most};
+ghost use Rattle.std.specs.Prelude.{◌≡◌, ◌≤◌, ◌↔◌, [], IfSome, IsSome, drop, length};
+ghost use Rattle.std.specs.Iterator.{YieldsFirstRef, item_count};
+ghost use Rattle.std.specs.List.{position_or_len};
+ghost use Rattle.run_lines.specs.Line.{is_space, words_of};
 
 pub use buffer::{keep, line_end};
 
@@ -15,34 +17,50 @@ pub struct Words<'a>(&'a [u8]);
 impl<'a> Iterator for Words<'a> {
     type Item = &'a [u8];
 
-    ghost remaining = { λ w. at_most (length w.0.now) };
+    ghost next_gives = { YieldsFirstRef (λ w. words_of w.0.now) };
+
+    ghost remaining = { item_count (λ w. words_of w.0.now) };
 
     fn next(&mut self) -> Option<&'a [u8]> {
         let start = self.0.iter().position(|b| *b != b' ')?;
-        let (_, left) = self.0.split_at(start);
-        let end = left.iter().position(|b| *b == b' ').unwrap_or(left.len());
-        let (word, after) = left.split_at(end);
-        self.0 = after;
+        let line = &self.0[start..];
+        let (word, left) = line.split_at(word_end(line));
+        self.0 = left;
         Some(word)
+    }
+}
+
+// Where the first space stands, or the length.
+fn word_end(line: &[u8]) -> usize
+    ensures first { result ≡ position_or_len is_space line.now }
+    ensures within { result ≤ length line.now }
+{
+    match line.iter().position(|b| *b == b' ') {
+        Some(end) => end,
+        None => line.len(),
     }
 }
 
 impl<'a> Words<'a> {
     // The words of a line, before the first.
-    pub fn new(line: &'a [u8]) -> Self {
+    pub fn new(line: &'a [u8]) -> Self
+        ensures { words_of result.0.now ≡ words_of line.now }
+    {
         Words(line)
     }
 
     // The next word, where it is a number up to `most`.
     pub fn number(&mut self, most: u64) -> Option<u64>
-        ensures { IfSome result (λ n. n ≤ most) }
+        ensures bound { IfSome result (λ n. n ≤ most) }
+        ensures left { words_of self.new.0.now ≡ drop 1 (words_of self.old.0.now) }
     {
         up_to(self.next()?, most)
     }
 
     // The next word, where it is a number up to `most`, or `-`, which is none.
     pub fn optional(&mut self, most: u64) -> Option<Option<u64>>
-        ensures { IfSome result (λ given. IfSome given (λ n. n ≤ most)) }
+        ensures bound { IfSome result (λ given. IfSome given (λ n. n ≤ most)) }
+        ensures left { words_of self.new.0.now ≡ drop 1 (words_of self.old.0.now) }
     {
         match self.next()? {
             b"-" => Some(None),
@@ -50,8 +68,10 @@ impl<'a> Words<'a> {
         }
     }
 
-    // Whether no word is left.
-    pub fn end(&mut self) -> Option<()> {
+    // Something where no word is left.
+    pub fn end(&mut self) -> Option<()>
+        ensures { IsSome result ↔ (words_of self.old.0.now ≡ []) }
+    {
         match self.next() {
             Some(_) => None,
             None => Some(()),

@@ -4,6 +4,17 @@
 use run_commands::{Call, Command, Show};
 use run_lines::Words;
 
+// start free, start held
+fn start(mut words: Words) -> Option<Call> {
+    let all_free = match words.next()? {
+        b"free" => true,
+        b"held" => false,
+        _ => return None,
+    };
+    words.end()?;
+    Some(Call::Start(all_free))
+}
+
 // The command of a name and the words after it.
 fn named(name: &[u8], mut words: Words) -> Option<Command> {
     match name {
@@ -17,7 +28,7 @@ fn named(name: &[u8], mut words: Words) -> Option<Command> {
         b"local" => Some(Command::Store(run_commands::local(words)?)),
         b"word" => Some(Command::Store(run_commands::bitmap_word(words)?)),
         b"fill" => Some(Command::Store(run_commands::fill(words)?)),
-        b"start" => Some(Command::Call(run_commands::start(words)?)),
+        b"start" => Some(Command::Call(start(words)?)),
         b"get" => Some(Command::Call(run_commands::get(words)?)),
         b"put" => Some(Command::Call(run_commands::put(words)?)),
         _ => {
