@@ -1,12 +1,10 @@
-// The commands of the line form, each read from the words after its name. No function asks more of its arguments than their types.
+// The commands of the line form, each read from the words after its name; none where they are not its words. No function asks more of its arguments than their types.
 #![tactic(auto)]
 
-ghost use Rattle.std.specs.Prelude.{◌+◌};
-
 use rules::Request;
-use run_lines::{Arg, Args};
+use run_lines::Words;
 
-// A line that sets the header, or what is lent. A length lent is held plus one; 0 is the exact one.
+// A line that sets the header, or what is lent; a length lent that is none is the exact one.
 #[derive(Clone, Copy)]
 pub enum Setting {
     Frames(usize),
@@ -16,9 +14,9 @@ pub enum Setting {
         place: u8,
     },
     Lend {
-        trees: usize,
-        locals: usize,
-        bits: usize,
+        trees: Option<usize>,
+        locals: Option<usize>,
+        bits: Option<usize>,
     },
     Rows(usize),
 }
@@ -78,225 +76,139 @@ pub enum Command {
     Show(Show),
 }
 
-// Whether no word is left.
-pub fn is_end(a: Arg) -> bool {
-    a.kind == 0
-}
-
-// Whether a word is a number up to `most`.
-fn is_number(a: Arg, most: u64) -> bool {
-    (a.kind == 2) & (a.value <= most)
-}
-
-// Whether a word is a number up to `most`, or `-`.
-fn is_optional(a: Arg, most: u64) -> bool {
-    (a.kind == 1) | is_number(a, most)
-}
-
-// A number plus one; 0 for `-`.
-fn plus_one(a: Arg) -> u64 {
-    if a.kind == 1 {
-        return 0;
-    }
-    std::num::wrapping_add_u64(a.value, 1)
-}
-
-// The low 8 bits.
-fn low8(x: u64) -> u8 {
-    (x % 256) as u8
-}
-
-// The low 32 bits.
-fn low32(x: u64) -> u32 {
-    (x % 4294967296) as u32
-}
-
-// Whether the words are one number, up to `most`.
-fn is_one(w: Args, most: u64) -> bool {
-    is_number(w.a, most) & is_end(w.b)
-}
-
-// Whether the words are two numbers, up to these.
-fn are_two(w: Args, first: u64, second: u64) -> bool {
-    is_number(w.a, first) & is_number(w.b, second) & is_end(w.c)
-}
-
 // frames F
-pub fn frames(w: Args) -> Command {
-    if is_one(w, u64::MAX) {
-        return Command::Set(Setting::Frames(w.a.value as usize));
-    }
-    Command::Wrong
+pub fn frames(mut words: Words) -> Option<Setting> {
+    let frames = words.number(u64::MAX)?;
+    words.end()?;
+    Some(Setting::Frames(frames as usize))
 }
 
 // default D
-pub fn default_class(w: Args) -> Command {
-    if is_one(w, 200) {
-        return Command::Set(Setting::Default(w.a.value as usize));
-    }
-    Command::Wrong
+pub fn default_class(mut words: Words) -> Option<Setting> {
+    let class = words.number(200)?;
+    words.end()?;
+    Some(Setting::Default(class as usize))
 }
 
 // class C K: the place of a class in the header is 0 where it is unconfigured, else its locals plus one.
-pub fn class(w: Args) -> Command {
-    if is_number(w.a, 7) & is_optional(w.b, 200) & is_end(w.c) {
-        return Command::Set(Setting::Class {
-            class: w.a.value as usize,
-            place: low8(plus_one(w.b)),
-        });
-    }
-    Command::Wrong
-}
-
-// A pair's word of its four numbers, each cut to its bits.
-fn pair_word(kind: u64, cut: u64, low: u64, high: u64) -> u32 {
-    low32(kind % 4 + 4 * (cut % 16384) + 65536 * (low % 256) + 16777216 * (high % 256))
-}
-
-// Whether the words are R T KIND CUT LOW HIGH.
-fn is_pair(w: Args) -> bool {
-    let place = is_number(w.a, 7) & is_number(w.b, 7);
-    let form = is_number(w.c, 3) & is_number(w.d, 16383);
-    place & form & is_number(w.e, 255) & is_number(w.f, 255) & is_end(w.g)
-}
-
-// pair R T KIND CUT LOW HIGH
-pub fn pair(w: Args) -> Command {
-    if is_pair(w) {
-        return Command::Store(Store::Pair {
-            at: (8 * (w.a.value % 8) + w.b.value % 8) as usize,
-            word: pair_word(w.c.value, w.d.value, w.e.value, w.f.value),
-        });
-    }
-    Command::Wrong
-}
-
-// Whether the words are T L B.
-fn are_lengths(w: Args) -> bool {
-    is_optional(w.a, 200) & is_optional(w.b, 256) & is_optional(w.c, 6400) & is_end(w.d)
+pub fn class(mut words: Words) -> Option<Setting> {
+    let class = words.number(7)?;
+    let locals = words.optional(200)?;
+    words.end()?;
+    Some(Setting::Class {
+        class: class as usize,
+        place: locals.map_or(0, |n| n as u8 + 1),
+    })
 }
 
 // lend T L B
-pub fn lend(w: Args) -> Command {
-    if are_lengths(w) {
-        return Command::Set(Setting::Lend {
-            trees: plus_one(w.a) as usize,
-            locals: plus_one(w.b) as usize,
-            bits: plus_one(w.c) as usize,
-        });
-    }
-    Command::Wrong
+pub fn lend(mut words: Words) -> Option<Setting> {
+    let trees = words.optional(200)?;
+    let locals = words.optional(256)?;
+    let bits = words.optional(6400)?;
+    words.end()?;
+    Some(Setting::Lend {
+        trees: trees.map(|n| n as usize),
+        locals: locals.map(|n| n as usize),
+        bits: bits.map(|n| n as usize),
+    })
 }
 
 // rows R
-pub fn rows(w: Args) -> Command {
-    if is_one(w, 16) {
-        return Command::Set(Setting::Rows(w.a.value as usize));
-    }
-    Command::Wrong
+pub fn rows(mut words: Words) -> Option<Setting> {
+    let rows = words.number(16)?;
+    words.end()?;
+    Some(Setting::Rows(rows as usize))
+}
+
+// pair R T KIND CUT LOW HIGH
+pub fn pair(mut words: Words) -> Option<Store> {
+    let class = words.number(7)?;
+    let tree = words.number(7)?;
+    let kind = words.number(3)?;
+    let cut = words.number(16383)?;
+    let low = words.number(255)?;
+    let high = words.number(255)?;
+    words.end()?;
+    Some(Store::Pair {
+        at: (8 * class + tree) as usize,
+        word: (kind + 4 * cut + 65536 * low + 16777216 * high) as u32,
+    })
 }
 
 // entry I W
-pub fn entry(w: Args) -> Command {
-    if are_two(w, 199, 4294967295) {
-        return Command::Store(Store::Entry {
-            at: w.a.value as usize,
-            word: low32(w.b.value),
-        });
-    }
-    Command::Wrong
+pub fn entry(mut words: Words) -> Option<Store> {
+    let at = words.number(199)?;
+    let word = words.number(4294967295)?;
+    words.end()?;
+    Some(Store::Entry {
+        at: at as usize,
+        word: word as u32,
+    })
 }
 
 // local I W
-pub fn local(w: Args) -> Command {
-    if are_two(w, 255, u64::MAX) {
-        return Command::Store(Store::Local {
-            at: w.a.value as usize,
-            word: w.b.value,
-        });
-    }
-    Command::Wrong
+pub fn local(mut words: Words) -> Option<Store> {
+    let at = words.number(255)?;
+    let word = words.number(u64::MAX)?;
+    words.end()?;
+    Some(Store::Local {
+        at: at as usize,
+        word,
+    })
 }
 
 // word I W
-pub fn bitmap_word(w: Args) -> Command {
-    if are_two(w, 6399, u64::MAX) {
-        return Command::Store(Store::Word {
-            at: w.a.value as usize,
-            word: w.b.value,
-        });
-    }
-    Command::Wrong
-}
-
-// Whether the words are FROM COUNT W.
-fn is_fill(w: Args) -> bool {
-    let left = std::num::wrapping_sub_u64(6400, w.a.value);
-    is_number(w.a, 6400) & is_number(w.b, left) & is_number(w.c, u64::MAX) & is_end(w.d)
+pub fn bitmap_word(mut words: Words) -> Option<Store> {
+    let at = words.number(6399)?;
+    let word = words.number(u64::MAX)?;
+    words.end()?;
+    Some(Store::Word {
+        at: at as usize,
+        word,
+    })
 }
 
 // fill FROM COUNT W
-pub fn fill(w: Args) -> Command {
-    if is_fill(w) {
-        return Command::Store(Store::Fill {
-            from: w.a.value as usize,
-            count: w.b.value as usize,
-            word: w.c.value,
-        });
-    }
-    Command::Wrong
-}
-
-// The local that a call gives.
-fn given(a: Arg) -> Option<usize> {
-    if a.kind == 1 {
-        return None;
-    }
-    Some(a.value as usize)
-}
-
-// The frame that a get names.
-fn name(a: Arg) -> Option<usize> {
-    if a.kind == 1 {
-        return None;
-    }
-    Some(a.value as usize)
-}
-
-// Whether the words after FRAME are ORDER CLASS LOCAL.
-fn is_request(w: Args) -> bool {
-    let order = is_number(w.b, u64::MAX);
-    let class = is_number(w.c, u64::MAX);
-    order & class & is_optional(w.d, u64::MAX) & is_end(w.e)
+pub fn fill(mut words: Words) -> Option<Store> {
+    let from = words.number(6400)?;
+    let count = words.number(6400 - from)?;
+    let word = words.number(u64::MAX)?;
+    words.end()?;
+    Some(Store::Fill {
+        from: from as usize,
+        count: count as usize,
+        word,
+    })
 }
 
 // ORDER CLASS LOCAL, after FRAME.
-fn request(w: Args) -> Request {
-    Request {
-        order: w.b.value as usize,
-        class: w.c.value as usize,
-        local: given(w.d),
-    }
+fn request(mut words: Words) -> Option<Request> {
+    let order = words.number(u64::MAX)?;
+    let class = words.number(u64::MAX)?;
+    let local = words.optional(u64::MAX)?;
+    words.end()?;
+    Some(Request {
+        order: order as usize,
+        class: class as usize,
+        local: local.map(|n| n as usize),
+    })
 }
 
 // get FRAME ORDER CLASS LOCAL
-pub fn get(w: Args) -> Command {
-    if is_optional(w.a, u64::MAX) & is_request(w) {
-        return Command::Call(Call::Get {
-            name: name(w.a),
-            q: request(w),
-        });
-    }
-    Command::Wrong
+pub fn get(mut words: Words) -> Option<Call> {
+    let frame = words.optional(u64::MAX)?;
+    Some(Call::Get {
+        name: frame.map(|n| n as usize),
+        q: request(words)?,
+    })
 }
 
 // put FRAME ORDER CLASS LOCAL
-pub fn put(w: Args) -> Command {
-    if is_number(w.a, u64::MAX) & is_request(w) {
-        return Command::Call(Call::Put {
-            frame: w.a.value as usize,
-            q: request(w),
-        });
-    }
-    Command::Wrong
+pub fn put(mut words: Words) -> Option<Call> {
+    let frame = words.number(u64::MAX)?;
+    Some(Call::Put {
+        frame: frame as usize,
+        q: request(words)?,
+    })
 }

@@ -14,31 +14,18 @@ fn dump_word(name: &[u8], i: usize, w: u64, out: &mut [u8], at: usize) -> usize 
     text_bytes::put_byte(out, to, b'\n')
 }
 
-// The tree words that are not 0.
-fn dump_trees(trees: &[u32], out: &mut [u8], at: usize) -> usize {
+// The words that are not 0.
+fn dump_words<W: Copy + Into<u64>>(name: &[u8], words: &[W], out: &mut [u8], at: usize) -> usize {
     let mut to = at;
-    let mut i = 0;
-    while i < trees.len() {
-        to = dump_word(b"entry ", i, run_sums::wide(trees[i]), out, to);
-        i += 1;
-    }
-    to
-}
-
-// The local words or bitmap words that are not 0.
-fn dump_words(name: &[u8], words: &[u64], out: &mut [u8], at: usize) -> usize {
-    let mut to = at;
-    let mut i = 0;
-    while i < words.len() {
-        to = dump_word(name, i, words[i], out, to);
-        i += 1;
+    for (i, word) in words.iter().enumerate() {
+        to = dump_word(name, i, (*word).into(), out, to);
     }
     to
 }
 
 // Each lent word that is not 0, then the end.
 pub fn dump(trees: &[u32], locals: &[u64], bits: &[u64], out: &mut [u8], at: usize) -> usize {
-    let to = dump_trees(trees, out, at);
+    let to = dump_words(b"entry ", trees, out, at);
     let to = dump_words(b"local ", locals, out, to);
     let to = dump_words(b"word ", bits, out, to);
     text_bytes::append(out, to, b"end\n")
@@ -47,10 +34,10 @@ pub fn dump(trees: &[u32], locals: &[u64], bits: &[u64], out: &mut [u8], at: usi
 // The sums of the lent words.
 pub fn sum(trees: &[u32], locals: &[u64], bits: &[u64], out: &mut [u8], at: usize) -> usize {
     let to = text_bytes::append(out, at, b"sum ");
-    let to = text_bytes::put_hex(out, to, run_sums::fnv_u32(trees), 16);
+    let to = text_bytes::put_hex(out, to, run_sums::fnv(trees), 16);
     let to = text_bytes::put_byte(out, to, b' ');
-    let to = text_bytes::put_hex(out, to, run_sums::fnv_u64(locals), 16);
+    let to = text_bytes::put_hex(out, to, run_sums::fnv(locals), 16);
     let to = text_bytes::put_byte(out, to, b' ');
-    let to = text_bytes::put_hex(out, to, run_sums::fnv_u64(bits), 16);
+    let to = text_bytes::put_hex(out, to, run_sums::fnv(bits), 16);
     text_bytes::put_byte(out, to, b'\n')
 }

@@ -1,93 +1,63 @@
 // A line read into a command: its name says which. No function asks more of its arguments than their types.
 #![tactic(auto)]
 
-ghost use Rattle.std.specs.Prelude.{◌<◌};
-
 use run_commands::{Call, Command, Show};
-use run_lines::Args;
+use run_lines::Words;
 
-// start free, start held: the line from `at` on.
-fn start(s: &[u8], at: usize) -> Command {
-    let from = run_lines::past_spaces(s, at);
-    let to = run_lines::word_end(s, from);
-    if run_lines::past_spaces(s, to) < s.len() {
-        return Command::Wrong;
-    }
-    if from >= to {
-        return Command::Wrong;
-    }
-    match run_lines::place(&s[from..to], b"free held ") {
-        0 => Command::Call(Call::Start(true)),
-        1 => Command::Call(Call::Start(false)),
-        _ => Command::Wrong,
-    }
+// start free, start held
+fn start(mut words: Words) -> Option<Call> {
+    let all_free = match words.next()? {
+        b"free" => true,
+        b"held" => false,
+        _ => return None,
+    };
+    words.end()?;
+    Some(Call::Start(all_free))
 }
 
-// A command of one word, by its name's place: drain 13, stats 14, dump 15, sum 16, look 17.
-fn alone(n: usize) -> Command {
-    match n {
-        13 => Command::Call(Call::Drain),
-        14 => Command::Call(Call::Stats),
-        15 => Command::Show(Show::Dump),
-        16 => Command::Show(Show::Sum),
-        17 => Command::Show(Show::Look),
-        _ => Command::Wrong,
-    }
-}
-
-// A command and the words after its name, by its name's place among the names, as `parse` lists them: start 0, get 1, put 2 and so on.
-fn placed(n: usize, w: Args) -> Command {
-    match n {
-        1 => run_commands::get(w),
-        2 => run_commands::put(w),
-        3 => run_commands::bitmap_word(w),
-        4 => run_commands::entry(w),
-        5 => run_commands::local(w),
-        6 => run_commands::fill(w),
-        7 => run_commands::pair(w),
-        8 => run_commands::frames(w),
-        9 => run_commands::default_class(w),
-        10 => run_commands::class(w),
-        11 => run_commands::lend(w),
-        12 => run_commands::rows(w),
+// The command of a name and the words after it.
+fn named(name: &[u8], mut words: Words) -> Option<Command> {
+    match name {
+        b"frames" => Some(Command::Set(run_commands::frames(words)?)),
+        b"default" => Some(Command::Set(run_commands::default_class(words)?)),
+        b"class" => Some(Command::Set(run_commands::class(words)?)),
+        b"lend" => Some(Command::Set(run_commands::lend(words)?)),
+        b"rows" => Some(Command::Set(run_commands::rows(words)?)),
+        b"pair" => Some(Command::Store(run_commands::pair(words)?)),
+        b"entry" => Some(Command::Store(run_commands::entry(words)?)),
+        b"local" => Some(Command::Store(run_commands::local(words)?)),
+        b"word" => Some(Command::Store(run_commands::bitmap_word(words)?)),
+        b"fill" => Some(Command::Store(run_commands::fill(words)?)),
+        b"start" => Some(Command::Call(start(words)?)),
+        b"get" => Some(Command::Call(run_commands::get(words)?)),
+        b"put" => Some(Command::Call(run_commands::put(words)?)),
         _ => {
-            if run_commands::is_end(w.a) {
-                return alone(n);
-            }
-            Command::Wrong
+            words.end()?;
+            alone(name)
         }
     }
 }
 
-// The place of a command's name.
-fn place(name: &[u8]) -> usize {
-    run_lines::place(
-        name,
-        b"start get put word entry local fill pair frames default class lend rows drain stats dump sum look ",
-    )
-}
-
-// The command whose name stands from `from` on.
-fn named(s: &[u8], from: usize) -> Command {
-    let to = run_lines::word_end(s, from);
-    if from >= to {
-        return Command::Wrong;
+// A command of one word.
+fn alone(name: &[u8]) -> Option<Command> {
+    match name {
+        b"drain" => Some(Command::Call(Call::Drain)),
+        b"stats" => Some(Command::Call(Call::Stats)),
+        b"dump" => Some(Command::Show(Show::Dump)),
+        b"sum" => Some(Command::Show(Show::Sum)),
+        b"look" => Some(Command::Show(Show::Look)),
+        _ => None,
     }
-    let n = place(&s[from..to]);
-    if n == 0 {
-        return start(s, to);
-    }
-    placed(n, run_lines::words(s, to))
 }
 
 // What a line says, without its line feed.
-pub fn parse(s: &[u8]) -> Command {
-    let from = run_lines::past_spaces(s, 0);
-    if from >= s.len() {
+pub fn parse(line: &[u8]) -> Command {
+    if line.starts_with(b"#") {
         return Command::Nothing;
     }
-    if s[0] == b'#' {
-        return Command::Nothing;
+    let mut words = Words::new(line);
+    match words.next() {
+        Some(name) => named(name, words).unwrap_or(Command::Wrong),
+        None => Command::Nothing,
     }
-    named(s, from)
 }

@@ -1,7 +1,6 @@
 -- FNV-1a, 64 bit, over words taken as their bytes, lowest first. Assumes nothing.
-use Rattle.std.specs.Prelude.{◌≡◌, ℕ, zero, suc, ◌+◌, ◌-◌, ◌*◌, ◌/◌, ◌%◌, ◌^◌, ◌<◌, ◌≤◌, List, [], ◌∷◌, length, drop, bit_xor, slice_index}
-use Rattle.std.proofs.Common.{sym, ap, ◌∙◌, not-suc-le-zero, div-add-mod', arith, add-one, drop_of_length-le, drop-cons}
-use Rattle.std.proofs.Math.Nat.{add-mul-mod_self_left}
+use Rattle.std.specs.Prelude.{◌≡◌, refl, ℕ, zero, suc, ◌+◌, ◌-◌, ◌*◌, ◌/◌, ◌%◌, ◌^◌, ◌<◌, ◌≤◌, List, [], ◌∷◌, length, drop, bit_xor, slice_index}
+use Rattle.std.proofs.Common.{sym, ap, ◌∙◌, not-suc-le-zero, arith, add-one, drop_of_length-le, drop-cons}
 
 -- the sum of no bytes
 abbrev pub basis : ℕ
@@ -40,24 +39,11 @@ pub from_end : (n h : ℕ) (ws : List ℕ) (i : ℕ) → length ws ≤ i → fnv
 unfolding fnv_from
 from_end n h ws i l = ap (fnv_from n h) (drop_of_length-le ws l)
 
--- the product by halves
-flat : (x z : ℕ) → (x % 2 ^ 64 + z) % 2 ^ 64 ≡ (x + z) % 2 ^ 64
-flat x z =
-    let e : x + z ≡ x % 2 ^ 64 + z + 2 ^ 64 * (x / 2 ^ 64) = omega arith in
-    sym (ap (λ (n : ℕ). n % 2 ^ 64) e ∙ add-mul-mod_self_left (x % 2 ^ 64 + z) (2 ^ 64) (x / 2 ^ 64))
+-- what a word's kind says of sums: with no word more, and with one more before others
+pub record Sums {W : Type 0} (with : ℕ → W → ℕ) (from : ℕ → List W → ℕ) : Type 0 where
+  pub none : (h : ℕ) → from h [] ≡ h
+  pub more : (h : ℕ) (w : W) (ws : List W) → from h (w ∷ ws) ≡ from (with h w) ws
 
-parts : (h q r k m t s : ℕ) → h ≡ q * 2 ^ 32 + r → q * 435 ≡ k * 2 ^ 32 + m → h ≡ t * 2 ^ 24 + s
-    → h * 1099511628211 ≡ r * 435 + m * 2 ^ 32 + s * 2 ^ 40 + 2 ^ 64 * (k + t)
-parts h q r k m t s e f g = omega arith
-
-whole : (n d : ℕ) → n ≡ n / d * d + n % d
-whole n d = sym (div-add-mod' n d)
-
-pub halves : (h : ℕ) → ((h % 2 ^ 32 * 435 + h / 2 ^ 32 * 435 % 2 ^ 32 * 2 ^ 32) % 2 ^ 64 + h % 2 ^ 24 * 2 ^ 40) % 2 ^ 64 ≡ h * 1099511628211 % 2 ^ 64
-halves h =
-    let q = h / 2 ^ 32 in
-    let x = h % 2 ^ 32 * 435 + q * 435 % 2 ^ 32 * 2 ^ 32 in
-    flat x (h % 2 ^ 24 * 2 ^ 40)
-    ∙ sym (ap (λ (n : ℕ). n % 2 ^ 64)
-    (parts h q (h % 2 ^ 32) (q * 435 / 2 ^ 32) (q * 435 % 2 ^ 32) (h / 2 ^ 24) (h % 2 ^ 24) (whole h (2 ^ 32)) (whole (q * 435) (2 ^ 32)) (whole h (2 ^ 24)))
-    ∙ add-mul-mod_self_left (x + h % 2 ^ 24 * 2 ^ 40) (2 ^ 64) (q * 435 / 2 ^ 32 + h / 2 ^ 24))
+pub sums : (n : ℕ) → Sums (fnv_word n) (fnv_from n)
+unfolding fnv_from
+sums n = record { none = λ h. refl; more = λ h w ws. refl }

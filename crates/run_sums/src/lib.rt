@@ -1,70 +1,72 @@
 // FNV-1a, 64 bit, over words taken as their bytes, lowest first.
 #![tactic(auto)]
 
-ghost use Rattle.std.specs.Prelude.{◌≡◌, ◌*◌, ◌%◌, ◌^◌};
-ghost use Rattle.run_sums.specs.Fnv.{basis, fnv_byte, fnv_word, fnv_from};
+ghost use Rattle.std.specs.Prelude.{◌≡◌, ℕ, List};
+ghost use Rattle.run_sums.specs.Fnv.{basis, fnv_byte, fnv_word, fnv_from, Sums, sums};
 
-// h times 2^40 + 435 modulo 2^64: by halves, since no product may pass 64 bits.
-fn times_prime(h: u64) -> u64
-    ensures { result ≡ h * 1099511628211 % 2 ^ 64 }
-{
-    let low = (h % 4294967296) * 435;
-    let high = ((h / 4294967296) * 435 % 4294967296) * 4294967296;
-    let shifted = (h % 16777216) * 1099511627776;
-    std::num::wrapping_add_u64(std::num::wrapping_add_u64(low, high), shifted)
-}
+const BASIS: u64 = 14695981039346656037;
 
-// The sum with one byte more.
-fn with_byte(h: u64, b: u64) -> u64
-    ensures { result ≡ fnv_byte h b }
-{
-    times_prime(h ^ b)
-}
+const PRIME: u64 = 1099511628211;
 
 // The sum with a word of n bytes more.
-fn with_word(h: u64, w: u64, n: usize) -> u64
-    ensures { result ≡ fnv_word n h w }
+fn with_word(h: u64, word: u64, n: usize) -> u64
+    ensures { result ≡ fnv_word n h word }
 {
-    let mut now = h;
-    let mut rest = w;
-    let mut left = n;
-    while left > 0 {
-        now = with_byte(now, rest % 256);
-        rest = rest / 256;
-        left -= 1;
+    let mut sum = h;
+    let mut left = word;
+    for _ in 0..n {
+        sum = (sum ^ left % 256).wrapping_mul(PRIME);
+        left /= 256;
     }
-    now
+    sum
 }
 
-// A tree word as a number.
-pub fn wide(x: u32) -> u64
-    ensures { result ≡ x }
-{
-    x as u64
+// A word whose bytes a sum takes.
+pub trait Word: Copy {
+    // The sum with a word more, and with words more.
+    ghost with: { ℕ → Self → ℕ };
+
+    ghost from: { ℕ → List Self → ℕ };
+
+    ghost laws: { Sums with from };
+
+    fn added_to(self, sum: u64) -> u64
+        ensures { result ≡ with sum self };
 }
 
-// The sum of tree words.
-pub fn fnv_u32(words: &[u32]) -> u64
-    ensures { result ≡ fnv_from 4 basis words.now }
-{
-    let mut h: u64 = 14695981039346656037;
-    let mut i = 0;
-    while i < words.len() {
-        h = with_word(h, wide(words[i]), 4);
-        i += 1;
+// A tree word has four bytes.
+impl Word for u32 {
+    ghost with = { fnv_word 4 };
+
+    ghost from = { fnv_from 4 };
+
+    ghost laws = { sums 4 };
+
+    fn added_to(self, sum: u64) -> u64 {
+        with_word(sum, u64::from(self), 4)
     }
-    h
 }
 
-// The sum of local words or bitmap words.
-pub fn fnv_u64(words: &[u64]) -> u64
-    ensures { result ≡ fnv_from 8 basis words.now }
-{
-    let mut h: u64 = 14695981039346656037;
-    let mut i = 0;
-    while i < words.len() {
-        h = with_word(h, words[i], 8);
-        i += 1;
+// A local word or a bitmap word has eight.
+impl Word for u64 {
+    ghost with = { fnv_word 8 };
+
+    ghost from = { fnv_from 8 };
+
+    ghost laws = { sums 8 };
+
+    fn added_to(self, sum: u64) -> u64 {
+        with_word(sum, self, 8)
     }
-    h
+}
+
+// The sum of words.
+pub fn fnv<W: Word>(words: &[W]) -> u64
+    ensures { result ≡ W.from basis words.now }
+{
+    let mut sum = BASIS;
+    for word in words {
+        sum = word.added_to(sum);
+    }
+    sum
 }

@@ -20,11 +20,9 @@ pub fn put_byte(out: &mut [u8], at: usize, b: u8) -> usize
 pub fn append(out: &mut [u8], at: usize, src: &[u8]) -> usize
     ensures { text out.new result ≡ write (text out.old at) src.now }
 {
-    let mut i = 0;
     let mut to = at;
-    while i < src.len() {
-        to = put_byte(out, to, src[i]);
-        i += 1;
+    for b in src {
+        to = put_byte(out, to, *b);
     }
     to
 }
@@ -33,11 +31,9 @@ pub fn append(out: &mut [u8], at: usize, src: &[u8]) -> usize
 fn spaces(out: &mut [u8], at: usize, n: usize) -> usize
     ensures { text out.new result ≡ write (text out.old at) (blanks n) }
 {
-    let mut i = 0;
     let mut to = at;
-    while i < n {
+    for _ in 0..n {
         to = put_byte(out, to, b' ');
-        i += 1;
     }
     to
 }
@@ -59,23 +55,13 @@ pub fn put_number(out: &mut [u8], at: usize, before: &[u8], n: u64) -> usize
     put_decimal(out, to, n)
 }
 
-// How many spaces stand before k digits in a width.
-fn short_of(width: usize, k: usize) -> usize
-    ensures { result ≡ width - k }
-{
-    if k < width {
-        return width - k;
-    }
-    0
-}
-
 // A number in decimal digits, spaces before it up to a width.
 pub fn put_padded(out: &mut [u8], at: usize, n: u64, width: usize) -> usize
     ensures { text out.new result ≡ write (text out.old at) (padded width n) }
 {
     let mut digits = [0u8; 20];
     let k = io::decimal(n, &mut digits);
-    let to = spaces(out, at, short_of(width, k));
+    let to = spaces(out, at, width.saturating_sub(k));
     append(out, to, &digits[..k])
 }
 

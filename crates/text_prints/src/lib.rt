@@ -1,8 +1,6 @@
 // Texts, numbers and the names of outcomes to standard output; where it cannot be written, that is told on standard error.
 #![tactic(auto)]
 
-ghost use Rattle.std.specs.Prelude.{◌≤◌, length};
-
 // The streams that are written: standard output, and standard error.
 const STDOUT_FILENO: i32 = 1;
 
@@ -20,14 +18,11 @@ fn tell(program: Program, written: bool) {
     if written {
         return;
     }
-    match program {
-        Program::Runner => {
-            io::write_all(STDERR_FILENO, b"runner");
-        }
-        Program::Boot => {
-            io::write_all(STDERR_FILENO, b"boot");
-        }
-    }
+    let name: &[u8] = match program {
+        Program::Runner => b"runner",
+        Program::Boot => b"boot",
+    };
+    io::write_all(STDERR_FILENO, name);
     io::write_all(STDERR_FILENO, b": standard output cannot be written\n");
 }
 
@@ -38,8 +33,8 @@ pub fn text(program: Program, bytes: &[u8]) {
 
 // Writes the first `to` bytes of a text.
 pub fn front(program: Program, bytes: &[u8], to: usize) {
-    if to <= bytes.len() {
-        text(program, &bytes[0..to]);
+    if let Some(written) = bytes.get(..to) {
+        text(program, written);
     }
 }
 
@@ -55,51 +50,19 @@ pub fn name(program: Program, n: usize) {
     front(program, &bytes, to);
 }
 
-// The first place of a sign in a text, at or after `from`; the length where there is none.
-fn place(bytes: &[u8], from: usize, sign: u8) -> usize
-    requires { from ≤ length bytes.now }
-    ensures { (from ≤ result) × (result ≤ length bytes.now) }
-{
-    let mut i = from;
-    while i < bytes.len() {
-        if bytes[i] == sign {
-            return i;
-        }
-        i += 1;
-    }
-    i
-}
-
 // Writes a text, at each `%` the next of the four numbers; a fifth begins again with the first.
 pub fn form(program: Program, bytes: &[u8], numbers: [usize; 4]) {
-    let mut from = 0;
-    let mut n = 0;
-    while from < bytes.len() {
-        let to = place(bytes, from, b'%');
-        text(program, &bytes[from..to]);
-        if to >= bytes.len() {
-            return;
+    for (n, part) in bytes.split(|b| *b == b'%').enumerate() {
+        if n > 0 {
+            number(program, numbers[(n - 1) % 4]);
         }
-        number(program, numbers[n % 4]);
-        n = std::num::wrapping_add_usize(n, 1);
-        from = to + 1;
+        text(program, part);
     }
 }
 
 // Writes the n-th part of a text, each of which ends with `|`; the first has the number 0.
 pub fn part(program: Program, bytes: &[u8], n: usize) {
-    let mut from = 0;
-    let mut left = n;
-    while from < bytes.len() {
-        let to = place(bytes, from, b'|');
-        if left == 0 {
-            text(program, &bytes[from..to]);
-            return;
-        }
-        if to >= bytes.len() {
-            return;
-        }
-        left -= 1;
-        from = to + 1;
+    if let Some(part) = bytes.split(|b| *b == b'|').nth(n) {
+        text(program, part);
     }
 }
