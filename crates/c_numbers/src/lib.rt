@@ -8,22 +8,11 @@ ghost use Rattle.rules_calls.specs.Calls.{number_of, outcome_of, telling, told_g
 use rules_calls::{Granted, Refusal, Reply};
 
 // The number of a refusal.
+#[tactic(auto, unfolding(rules_calls::specs::Calls::number_of))]
 pub fn refusal_number(x: Refusal) -> usize
     ensures { result ≡ number_of x }
 {
-    match x {
-        Refusal::Broken => 1,
-        Refusal::Order => 2,
-        Refusal::Bounds => 3,
-        Refusal::Misaligned => 4,
-        Refusal::Class => 5,
-        Refusal::Local => 6,
-        Refusal::Memory => 7,
-        Refusal::NotHeld => 8,
-        Refusal::Stuck => 9,
-        Refusal::Config => 10,
-        Refusal::Rows => 11,
-    }
+    x as usize
 }
 
 // The number of an outcome.

@@ -26,20 +26,20 @@ pub enum Walk {
     Stealing,
 }
 
-// The refusals, in document 01's order.
+// The refusals, with document 01's numbers, in its order; Done, 0, is none of them.
 #[derive(Clone, Copy)]
 pub enum Refusal {
-    Broken,
-    Order,
-    Bounds,
-    Misaligned,
-    Class,
-    Local,
-    Memory,
-    NotHeld,
-    Stuck,
-    Config,
-    Rows,
+    Broken = 1,
+    Order = 2,
+    Bounds = 3,
+    Misaligned = 4,
+    Class = 5,
+    Local = 6,
+    Memory = 7,
+    NotHeld = 8,
+    Stuck = 9,
+    Config = 10,
+    Rows = 11,
 }
 
 // What a get that is done answers: the frame, and its class.
