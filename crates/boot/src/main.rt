@@ -28,13 +28,11 @@ fn figures<'a>(
 }
 
 // The patterns in the order in which they are shown.
-fn pattern(n: usize) -> Pattern {
-    match n {
-        0 => Pattern::Raster,
-        1 => Pattern::FirstOverlay,
-        _ => Pattern::SecondOverlay,
-    }
-}
+const PATTERNS: [Pattern; 3] = [
+    Pattern::Raster,
+    Pattern::FirstOverlay,
+    Pattern::SecondOverlay,
+];
 
 // The patterns are taken in turn.
 fn take_all(
@@ -45,10 +43,8 @@ fn take_all(
     bits: &mut [u64],
 ) -> [Held; 3] {
     let mut held = [boot_shows::nothing(); 3];
-    let mut n = 0;
-    while n < 3 {
-        held[n] = boot_shows::show(h, table, trees, locals, bits, pattern(n));
-        n += 1;
+    for (n, p) in PATTERNS.into_iter().enumerate() {
+        held[n] = boot_shows::show(h, table, trees, locals, bits, p);
     }
     held
 }
@@ -62,10 +58,8 @@ fn give_all(
     bits: &mut [u64],
     held: [Held; 3],
 ) {
-    let mut n = 0;
-    while n < 3 {
-        boot_shows::give(h, table, trees, locals, bits, pattern(n), held[n]);
-        n += 1;
+    for (n, p) in PATTERNS.into_iter().enumerate() {
+        boot_shows::give(h, table, trees, locals, bits, p, held[n]);
     }
 }
 
@@ -100,9 +94,8 @@ fn boot(h: Header, table: &[u32; 64], trees: &mut [u32], locals: &mut [u64], bit
     boot_says::board(h.frames);
     let started = start(h, table, trees, locals, bits);
     boot_says::outcome(b"start", started);
-    match started {
-        Ok(()) => serve(h, table, trees, locals, bits),
-        Err(_) => (),
+    if started.is_ok() {
+        serve(h, table, trees, locals, bits);
     }
 }
 

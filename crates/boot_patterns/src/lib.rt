@@ -30,8 +30,7 @@ pub fn frames(p: Pattern) -> usize
 {
     match p {
         Pattern::Raster => plane(6),
-        Pattern::FirstOverlay => plane(1),
-        Pattern::SecondOverlay => plane(1),
+        Pattern::FirstOverlay | Pattern::SecondOverlay => plane(1),
     }
 }
 
@@ -57,8 +56,7 @@ fn class(p: Pattern) -> usize
 {
     match p {
         Pattern::Raster => 1,
-        Pattern::FirstOverlay => 0,
-        Pattern::SecondOverlay => 0,
+        Pattern::FirstOverlay | Pattern::SecondOverlay => 0,
     }
 }
 
@@ -67,8 +65,7 @@ fn local(p: Pattern) -> usize
     ensures { result < 2 }
 {
     match p {
-        Pattern::Raster => 0,
-        Pattern::FirstOverlay => 0,
+        Pattern::Raster | Pattern::FirstOverlay => 0,
         Pattern::SecondOverlay => 1,
     }
 }
@@ -79,7 +76,7 @@ pub fn request(p: Pattern, order: usize) -> Request
     ensures { (frames : ℕ) → 2048 ≤ frames → refusal (board frames) result 0 ≡ 0 }
 {
     Request {
-        order: order,
+        order,
         class: class(p),
         local: Some(local(p)),
     }

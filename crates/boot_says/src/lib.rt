@@ -11,63 +11,67 @@ pub fn say(text: &[u8]) {
     text_prints::text(Program::Boot, text);
 }
 
-// What the loader does on the refusal with the number n, the n-th part; that of 0, Done, is empty.
-fn action(n: usize) {
-    text_prints::part(
-        Program::Boot,
-        b"|\
-        the words are damaged: it leaves them for service, shows the built-in pattern, starts anew at the next boot|\
-        an order above 11|\
-        a block past the last frame|\
-        a frame that is no multiple of its block|\
-        a class that the board does not have|\
-        a local that the class does not have|\
-        no such block is free: it gives back what it took and shows the built-in pattern|\
-        the block was not held: it reports the block and goes on with the next|\
-        cannot come after an accepted start, which is proved: it does as on Broken|\
-        the board's constants are wrong: it takes nothing and shows the built-in pattern|\
-        other than eight rows lent: the loader's own error; it goes on without the figures|",
-        n,
-    );
+// What the loader does on a refusal.
+fn action(x: Refusal) -> &'static [u8] {
+    match x {
+        Refusal::Broken => {
+            b"the words are damaged: it leaves them for service, shows the built-in pattern, starts anew at the next boot"
+        }
+        Refusal::Order => b"an order above 11",
+        Refusal::Bounds => b"a block past the last frame",
+        Refusal::Misaligned => b"a frame that is no multiple of its block",
+        Refusal::Class => b"a class that the board does not have",
+        Refusal::Local => b"a local that the class does not have",
+        Refusal::Memory => {
+            b"no such block is free: it gives back what it took and shows the built-in pattern"
+        }
+        Refusal::NotHeld => {
+            b"the block was not held: it reports the block and goes on with the next"
+        }
+        Refusal::Stuck => {
+            b"cannot come after an accepted start, which is proved: it does as on Broken"
+        }
+        Refusal::Config => {
+            b"the board's constants are wrong: it takes nothing and shows the built-in pattern"
+        }
+        Refusal::Rows => {
+            b"other than eight rows lent: the loader's own error; it goes on without the figures"
+        }
+    }
 }
 
-// What it does on an error of its own, which are those from 2 to 6.
-fn own_error(n: usize) {
-    if n < 2 {
-        return;
-    }
-    if n < 7 {
-        say(b": the loader's own error; it gives back what it took and shows the built-in pattern");
-    }
+// Whether a refusal is an error of the loader's own: one of those from Order to Local.
+fn is_own_error(x: Refusal) -> bool {
+    matches!(
+        x,
+        Refusal::Order
+            | Refusal::Bounds
+            | Refusal::Misaligned
+            | Refusal::Class
+            | Refusal::Local
+    )
 }
 
-// Ends a line with the name of a number, and a refusal with what the loader does.
-fn ended(n: usize) {
-    text_prints::name(Program::Boot, n);
-    if n != 0 {
+// Ends a line with the name of what a call answered, and a refusal with what the loader does.
+fn ended(answer: Result<(), Refusal>) {
+    text_prints::name(Program::Boot, c_numbers::number(answer));
+    if let Err(x) = answer {
         say(b"\n    ");
-        action(n);
-        own_error(n);
+        say(action(x));
+        if is_own_error(x) {
+            say(b": the loader's own error; it gives back what it took and shows the built-in pattern");
+        }
     }
     say(b"\n");
 }
 
-// A pattern's place among them.
-fn place(p: Pattern) -> usize {
-    match p {
-        Pattern::Raster => 0,
-        Pattern::FirstOverlay => 1,
-        Pattern::SecondOverlay => 2,
-    }
-}
-
 // A pattern's name.
 fn pattern(p: Pattern) {
-    text_prints::part(
-        Program::Boot,
-        b"raster|first overlay|second overlay|",
-        place(p),
-    );
+    say(match p {
+        Pattern::Raster => b"raster",
+        Pattern::FirstOverlay => b"first overlay",
+        Pattern::SecondOverlay => b"second overlay",
+    });
 }
 
 // A call on a pattern's block.
@@ -91,32 +95,21 @@ pub fn got(p: Pattern, order: usize, reply: Reply) {
     block(b"get ", p, order);
     match reply.granted {
         Ok(Granted { frame, class }) => done(frame, class),
-        Err(x) => ended(c_numbers::refusal_number(x)),
+        Err(x) => ended(Err(x)),
     }
 }
 
 // The answer to a put.
 pub fn gave(p: Pattern, order: usize, outcome: Result<(), Refusal>) {
     block(b"put ", p, order);
-    ended(c_numbers::number(outcome));
+    ended(outcome);
 }
 
-// The answer to a start or a drain.
-pub fn outcome(call: &[u8], outcome: Result<(), Refusal>) {
+// What a call answered, but for the figures.
+pub fn outcome(call: &[u8], answer: Result<(), Refusal>) {
     say(call);
-    answered(c_numbers::number(outcome));
-}
-
-// The number that a call answered.
-fn answered(n: usize) {
     say(b": ");
-    ended(n);
-}
-
-// The n-th of these calls, each of which ends with `|`, and the number that it answered.
-pub fn call(calls: &[u8], n: usize, number: usize) {
-    text_prints::part(Program::Boot, calls, n);
-    answered(number);
+    ended(answer);
 }
 
 // A pattern is held whole.

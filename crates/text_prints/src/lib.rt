@@ -59,10 +59,3 @@ pub fn form(program: Program, bytes: &[u8], numbers: [usize; 4]) {
         text(program, part);
     }
 }
-
-// Writes the n-th part of a text, each of which ends with `|`; the first has the number 0.
-pub fn part(program: Program, bytes: &[u8], n: usize) {
-    if let Some(part) = bytes.split(|b| *b == b'|').nth(n) {
-        text(program, part);
-    }
-}
