@@ -7,7 +7,7 @@ use run_commands::Command;
 use std::io::Read;
 use text_prints::Program;
 
-// Where the run stands: the next line's place in the input, the bytes there, the lines counted, whether a line too long is passed over, whether the input has ended, the answers' bytes not yet written, and whether all is done.
+// Where the run stands: the next line's place in the input, the bytes there, the lines counted, whether a line too long is passed over, whether the input has ended, and the answers' bytes not yet written.
 #[derive(Clone, Copy)]
 pub struct Run {
     pub from: usize,
@@ -16,7 +16,6 @@ pub struct Run {
     pub over: bool,
     pub ended: bool,
     pub at: usize,
-    pub done: bool,
 }
 
 // At the beginning nothing is read.
@@ -28,7 +27,6 @@ pub fn begun() -> Run {
         over: false,
         ended: false,
         at: 0,
-        done: false,
     }
 }
 
@@ -51,10 +49,10 @@ fn usage() {
 
 // The end of the line that begins at `from`, among `have` bytes; `have` where it is not there yet.
 fn end_in(buf: &[u8], from: usize, have: usize) -> usize {
-    if have > buf.len() {
-        return have;
+    match buf.get(..have) {
+        Some(input) => run_lines::line_end(input, from),
+        None => have,
     }
-    run_lines::line_end(&buf[0..have], from)
 }
 
 // The end of the next line; the bytes there where it has none yet.
@@ -64,13 +62,10 @@ pub fn end_of(buf: &[u8; 65536], r: Run) -> usize {
 
 // The command of the line from `from` to `to`.
 fn command_of(buf: &[u8], from: usize, to: usize) -> Command {
-    if to > buf.len() {
-        return Command::Wrong;
+    match buf.get(from..to) {
+        Some(line) => run_parses::parse(line),
+        None => Command::Wrong,
     }
-    if from > to {
-        return Command::Wrong;
-    }
-    run_parses::parse(&buf[from..to])
 }
 
 // The lines counted with this one; the rest of a line that is passed over is none.
@@ -78,7 +73,7 @@ pub fn counted(r: Run) -> u64 {
     if r.over {
         return r.number;
     }
-    std::num::wrapping_add_u64(r.number, 1)
+    r.number.wrapping_add(1)
 }
 
 // The command of the line that ends at `e`; nothing of one that is passed over.
@@ -92,35 +87,28 @@ pub fn command(buf: &[u8; 65536], r: Run, e: usize) -> Command {
 // The run past the line that ends at `e`.
 pub fn past(r: Run, e: usize, at: usize) -> Run {
     Run {
-        from: std::num::wrapping_add_usize(e, 1),
-        have: r.have,
+        from: e.wrapping_add(1),
         number: counted(r),
         over: false,
-        ended: r.ended,
-        at: at,
-        done: false,
+        at,
+        ..r
     }
 }
 
 // The run with `have` bytes at the start of the input, all answers written.
-fn with_input(r: Run, have: usize, ended: bool, done: bool) -> Run {
+fn with_input(r: Run, have: usize, ended: bool) -> Run {
     Run {
         from: 0,
-        have: have,
-        number: r.number,
-        over: r.over,
-        ended: ended,
+        have,
+        ended,
         at: 0,
-        done: done,
+        ..r
     }
 }
 
 // A line too long for the input's buffer is no command, unless it begins with '#'.
 fn say_wrong(buf: &[u8], number: u64, out: &mut [u8]) {
-    if buf.len() == 0 {
-        return;
-    }
-    if buf[0] == b'#' {
+    if buf.is_empty() || buf.starts_with(b"#") {
         return;
     }
     let at = run_answers::wrong(out, 0, number);
@@ -130,34 +118,22 @@ fn say_wrong(buf: &[u8], number: u64, out: &mut [u8]) {
 // The run where a line too long is passed over, up to its line feed.
 fn passing_over(number: u64) -> Run {
     Run {
-        from: 0,
-        have: 0,
-        number: number,
+        number,
         over: true,
-        ended: false,
-        at: 0,
-        done: false,
+        ..begun()
     }
 }
 
-// The run at the end of the input, where nothing is left.
-fn at_end(r: Run) -> Run {
-    if r.number == 0 {
-        usage();
-    }
-    with_input(r, 0, true, true)
-}
-
-// The end of the input: what is left is a line, if it is not empty.
-fn last_line(buf: &mut [u8], left: usize, r: Run) -> Run {
+// The end of the input: what is left is a line, if it is not empty; none where nothing is left.
+fn last_line(buf: &mut [u8], left: usize, r: Run) -> Option<Run> {
     if left == 0 {
-        return at_end(r);
+        if r.number == 0 {
+            usage();
+        }
+        return None;
     }
-    if left >= buf.len() {
-        return with_input(r, 0, true, true);
-    }
-    buf[left] = b'\n';
-    with_input(r, left + 1, true, false)
+    *buf.get_mut(left)? = b'\n';
+    Some(with_input(r, left + 1, true))
 }
 
 // What is left of an unfinished line, moved to the start; nothing of one that is passed over.
@@ -173,32 +149,34 @@ fn read(rt: &impl Input, buf: &mut [u8], left: usize) -> usize {
     if left >= buf.len() {
         return 0;
     }
-    match rt.reader().read(&mut buf[left..]) {
-        Ok(n) => n,
-        Err(_) => 0,
-    }
+    rt.reader().read(&mut buf[left..]).unwrap_or(0)
 }
 
 // The run after a read behind the `left` bytes of an unfinished line.
-fn after_read(rt: &impl Input, buf: &mut [u8], left: usize, r: Run) -> Run {
+fn after_read(rt: &impl Input, buf: &mut [u8], left: usize, r: Run) -> Option<Run> {
     let n = read(rt, buf, left);
     if n == 0 {
         return last_line(buf, left, r);
     }
-    with_input(r, std::num::wrapping_add_usize(left, n), false, false)
+    Some(with_input(r, left.wrapping_add(n), false))
 }
 
-// More input, once the answers are written.
-pub fn more(rt: &impl Input, buf: &mut [u8; 65536], r: Run, out: &mut [u8; 262144]) -> Run {
+// More input, once the answers are written; none where all is done.
+pub fn more(
+    rt: &impl Input,
+    buf: &mut [u8; 65536],
+    r: Run,
+    out: &mut [u8; 262144],
+) -> Option<Run> {
     text_prints::front(Program::Runner, out, r.at);
     if r.ended {
-        return with_input(r, 0, true, true);
+        return None;
     }
     let left = left_over(buf, r);
     if left < 65536 {
         return after_read(rt, buf, left, r);
     }
-    let number = std::num::wrapping_add_u64(r.number, 1);
+    let number = r.number.wrapping_add(1);
     say_wrong(buf, number, out);
-    passing_over(number)
+    Some(passing_over(number))
 }

@@ -7,16 +7,12 @@ use text_prints::Program;
 
 // How full a tree is: `.` all free, 1 to 9 tenths held, `#` all held, `!` more free than a tree has.
 fn fill_sign(free: usize) -> u8 {
-    if free > 2048 {
-        return b'!';
+    match free {
+        0 => b'#',
+        1..2048 => digit(1 + (2047 - free) * 9 / 2048),
+        2048 => b'.',
+        _ => b'!',
     }
-    if free == 2048 {
-        return b'.';
-    }
-    if free == 0 {
-        return b'#';
-    }
-    digit(1 + (2047 - free) * 9 / 2048)
 }
 
 // A digit's sign.
@@ -24,15 +20,12 @@ fn digit(n: usize) -> u8 {
     if n > 9 {
         return b'?';
     }
-    (48 + n) as u8
+    b'0' + n as u8
 }
 
 // Whether a tree is reserved.
 fn reserved_sign(reserved: bool) -> u8 {
-    if reserved {
-        return b'*';
-    }
-    b' '
+    if reserved { b'*' } else { b' ' }
 }
 
 // A tree's cell: a space, its fill, its class, and a star if it is reserved.
@@ -63,11 +56,9 @@ fn before(i: usize) {
 
 // The map of the trees.
 fn map(trees: &[u32]) {
-    let mut i = 0;
-    while i < trees.len() {
+    for (i, w) in trees.iter().enumerate() {
         before(i);
-        cell(word_fields::tree_of(trees[i]));
-        i += 1;
+        cell(word_fields::tree_of(*w));
     }
 }
 
@@ -84,10 +75,8 @@ fn one_local(i: usize, l: Local) {
 
 // The present locals.
 fn local_lines(locals: &[u64]) {
-    let mut i = 0;
-    while i < locals.len() {
-        one_local(i, word_fields::local_of(locals[i]));
-        i += 1;
+    for (i, w) in locals.iter().enumerate() {
+        one_local(i, word_fields::local_of(*w));
     }
 }
 
@@ -108,10 +97,8 @@ fn class_line(h: Header, class: usize)
 
 // The configured classes.
 fn class_lines(h: Header) {
-    let mut class = 0;
-    while class < 8 {
+    for class in 0..8 {
         class_line(h, class);
-        class += 1;
     }
 }
 

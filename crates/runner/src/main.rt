@@ -30,7 +30,7 @@ fn obey(
     }
 }
 
-// A proved loop has to end, and nothing says that the input does: the count of turns falls. A turn is one line, or one read.
+// A proved loop has to end, and nothing says that the input does: so many turns at most. A turn is one line, or one read.
 fn main(rt: HostRuntime) {
     let mut table = [0u32; 64];
     let mut trees = [0u32; 200];
@@ -38,11 +38,9 @@ fn main(rt: HostRuntime) {
     let mut bits = [0u64; 6400];
     let mut buf = [0u8; 65536];
     let mut out = [0u8; 262144];
-    let mut turns = u64::MAX;
     let mut setup = run_store::begun();
     let mut r = run_input::begun();
-    while 0 < turns {
-        turns -= 1;
+    for _ in 0..u64::MAX {
         let e = run_input::end_of(&buf, r);
         if e < r.have {
             let c = run_input::command(&buf, r, e);
@@ -59,10 +57,10 @@ fn main(rt: HostRuntime) {
             setup = run_store::after(setup, c);
             r = run_input::past(r, e, to);
         } else {
-            r = run_input::more(&rt, &mut buf, r, &mut out);
-            if r.done {
+            let Some(next) = run_input::more(&rt, &mut buf, r, &mut out) else {
                 return;
-            }
+            };
+            r = next;
         }
     }
 }
