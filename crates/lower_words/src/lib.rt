@@ -32,6 +32,7 @@ pub fn open_word(words: &[u64], at: usize, n: usize) -> usize
 }
 
 // Whether every frame of n whole words is held: none has a clear bit.
+#[tactic(auto, using(law_rules::specs::Open::open_full))]
 pub fn full_words(words: &[u64], at: usize, n: usize) -> bool
     requires { at + n ≤ length words.now }
     ensures { result ≡ eqb (held words.now (at * 64) (n * 64)) (n * 64) }
@@ -40,6 +41,7 @@ pub fn full_words(words: &[u64], at: usize, n: usize) -> bool
 }
 
 // The lowest clear bit of a word; 64 where there is none.
+#[tactic(auto, unfolding(law_rules::specs::LowestClear::lowest_clear))]
 pub fn lowest_clear(w: u64) -> usize
     ensures { result ≡ lowest_clear 64 w }
 {

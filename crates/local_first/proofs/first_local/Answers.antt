@@ -1,7 +1,6 @@
 -- What the goals of `local_first::first_local` follow from. Assumes nothing.
 use mathlib.Core.Path.{◌≡◌, refl, sym, ◌∙◌}
-use Prim.Native.Nat.{◌+◌, ◌<◌, ◌%◌}
-use native.Mathlib.Nat.{mod-lt}
+use Prim.Native.Nat.{◌+◌, ◌<◌}
 use native.Mathlib.Omega.{arith}
 use borrow.Author.Rules.{rules}
 use Rattle.rules.specs.Base.{first_in}
@@ -13,14 +12,6 @@ pub returns-then-len-eq0 : goal.returns-then-len-eq0
 unfolding first_in
 returns-then-len-eq0 c =
     payer-nobody _ _ _ _ _ _ _ _ _ refl c.locals_of-len.ensures.0 (rw c.if-len-eq0.true)
-
-pub overflow_add-end : goal.overflow_add-end
-overflow_add-end c = omega (arith, c.first_slot-first.ensures.1, c.locals_of-len.ensures.1)
-
-pub overflow_add-j : goal.overflow_add-j
-overflow_add-j c =
-    let m : c.args.from % c.locals_of-len.result < c.locals_of-len.result = mod-lt _ (omega arith) in
-    omega (arith, c.first_slot-first.ensures.1, c.locals_of-len.ensures.1)
 
 pub loop-d-init : goal.loop-d-init
 unfolding first_in

@@ -1,19 +1,9 @@
 -- `lower_blocks::is_held` meets its contract. Assumes nothing.
-use Rattle.law_rules.specs.Tests.{shift-lt, start_small, words-large, held-part-test, held-large-test}
+use Rattle.law_rules.specs.Tests.{shift-lt, held-part-test, held-large-test}
 use Rattle.law_rules.specs.Power.{one_shl}
-use native.Mathlib.Omega.{arith}
 use lib.Pow.{pow_pos}
 use borrow.Author.Rules.{rules}
 use Rattle.lower_blocks.proofs.is_held.Goals as goal
-
-pub overflow_mul-b : goal.overflow_mul-b
-overflow_mul-b c = let s = start_small _ _ _ _ c.size-n.ensures.0 c.requires in omega arith
-
-pub offset_bounds-words-q : goal.offset_bounds-words-q
-offset_bounds-words-q c = let s = start_small _ _ _ _ c.size-n.ensures.0 c.requires in omega arith
-
-pub bounds-words-q : goal.bounds-words-q
-bounds-words-q c = let s = start_small _ _ _ _ c.size-n.ensures.0 c.requires in omega arith
 
 pub part-requires : goal.part-requires
 part-requires c = search (rules, shift-lt)
@@ -23,9 +13,6 @@ overflow_shl-result c = search (rules, shift-lt)
 
 pub overflow_sub-result : goal.overflow_sub-result
 overflow_sub-result c = rw (one_shl _ (shift-lt c.args.words.now c.args.order c.args.block c.size-n.result c.size-n.ensures.0 c.if-order-lt6.true)) (pow_pos _)
-
-pub full_words-requires : goal.full_words-requires
-full_words-requires c = words-large _ _ _ _ c.size-n.ensures.0 c.requires c.if-order-lt6.false
 
 pub returns-then-order-lt6 : goal.returns-then-order-lt6
 returns-then-order-lt6 c = search (rules, held-part-test)

@@ -6,9 +6,6 @@ use Rattle.law_rules.specs.Tests.{shift-lt}
 use Rattle.law_rules.specs.WordSeek.{word, word-start, word_held}
 use Rattle.lower_blocks.proofs.word_held.Goals as goal
 
-pub overflow_mul-block : goal.overflow_mul-block
-overflow_mul-block c = omega (arith, word-start _ _ _ _ c.size-n.ensures.0 c.requires.1)
-
 pub part-requires : goal.part-requires
 part-requires c = let s = word-start _ _ _ _ c.size-n.ensures.0 c.requires.1 in let p = pow_pos c.args.order in (omega (arith, c.size-n.ensures.0), shift-lt (word c.args.w) _ c.args.block _ c.size-n.ensures.0 c.requires.0)
 

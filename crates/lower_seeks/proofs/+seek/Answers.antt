@@ -1,7 +1,6 @@
 -- What the goals of `lower_seeks::+seek` follow from. Assumes nothing.
 use borrow.Author.Rules.{rules}
-use native.Mathlib.Omega.{arith}
-use Rattle.law_rules.specs.Block.{block-few, half-left, half-right}
+use Rattle.law_rules.specs.Block.{half-left, half-right}
 use Rattle.law_rules.specs.Seek.{leaf-yes, leaf-no, at-word, right-only, from-left, from-right, right-reached, left-reached}
 use Rattle.lower_seeks.proofs.+seek.Goals as goal
 
@@ -11,23 +10,8 @@ returns-then-is_free t c = search (rules, leaf-yes)
 pub returns-then-order-want : goal.returns-then-order-want
 returns-then-order-want t c = search (rules, leaf-no)
 
-pub seek_row-requires : goal.seek_row-requires
-seek_row-requires t c = (search rules, rw c.if-order-eq6.true at c.requires.1.1.1)
-
 pub returns-then-order-eq6 : goal.returns-then-order-eq6
 returns-then-order-eq6 t c = search (rules, at-word)
-
-pub overflow_mul-left : goal.overflow_mul-left
-overflow_mul-left t c = let s = block-few _ _ _ c.requires.1.1.1 in omega arith
-
-pub overflow_mul-right : goal.overflow_mul-right
-overflow_mul-right t c = let s = block-few _ _ _ c.requires.1.1.1 in omega arith
-
-pub overflow_add-right : goal.overflow_add-right
-overflow_add-right t c = let s = block-few _ _ _ c.requires.1.1.1 in omega arith
-
-pub passed-requires : goal.passed-requires
-passed-requires t c = search (rules, half-left)
 
 pub seek-requires : goal.seek-requires
 seek-requires t c = (search rules, (search rules, (search rules, (right-reached _ _ _ c.requires.0 c.if-order-eq6.false c.requires.1.1.0, half-right _ _ _ _ c.requires.1.0 c.if-order-want.false c.requires.1.1.1))))

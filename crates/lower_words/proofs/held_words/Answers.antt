@@ -24,7 +24,3 @@ pub loop-w-preserved : goal.loop-w-preserved
 loop-w-preserved c =
     let h = (c.type_inv.words (c.args.at + c.loop-w.w-index)).fits in
     omega (arith, more _ _ _ _ c.requires.1 c.loop-w-test.true h)
-
-pub returns : goal.returns
-returns c =
-    let q : c.loop-w.w-index ≡ c.args.n = omega (arith, part-length _ _ _ c.requires.1) in rw q at c.loop-w.invariant

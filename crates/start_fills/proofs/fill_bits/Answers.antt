@@ -1,15 +1,8 @@
 -- `start_fills::fill_bits` meets its contract: three fills, or one. Assumes nothing.
 use native.Mathlib.Omega.{arith}
-use borrow.Author.Rules.{rules}
 use Rattle.start_stores.specs.Fill.{all-filled, parts-filled}
 use Rattle.start_words.specs.Share.{word-free, word_held}
 use Rattle.start_fills.proofs.fill_bits.Goals as goal
-
-pub fill-requires-then-whole-n : goal.fill-requires-then-whole-n
-fill-requires-then-whole-n c = (search rules, omega (arith, c.fill.ensures.len))
-
-pub fill-requires-then-whole-n-2 : goal.fill-requires-then-whole-n-2
-fill-requires-then-whole-n-2 c = (omega arith, omega (arith, c.fill.ensures.len, c.fill-then-whole-n.ensures.len))
 
 pub returns-then-whole-n : goal.returns-then-whole-n
 returns-then-whole-n c =
