@@ -1,7 +1,7 @@
 // llfree.rs: frames of one tree: steal them from its entry, or reserve it; then ask the lower.
 #![tactic(auto)]
 
-ghost use Rattle.std.specs.Prelude.{◌≡◌, ℕ, ◌+◌, ◌^◌, ◌<◌, ◌≤◌};
+ghost use Rattle.std.specs.Prelude.{◌≡◌, ℕ, None, ◌+◌, ◌^◌, ◌<◌, ◌≤◌};
 ghost use Rattle.rules.specs.Base.{ifte};
 ghost use Rattle.rules.specs.Words.{Config, config};
 ghost use Rattle.rules.specs.declared.Request.{Request};
@@ -74,7 +74,7 @@ fn reserve_or_steal(
 // Whether a walk steals what it finds, and reserves nothing.
 fn steals(walk: Walk) -> bool
     ensures { (c : Config) (q : Request) (j t : ℕ) (s : State) → access c q walk j t s
-        ≡ ifte result (λ _. steal_global c q Any t s) (λ _. reserve_or_steal c q j t s) }
+        ≡ ifte result (λ _. steal_global c q None t s) (λ _. reserve_or_steal c q j t s) }
 {
     match walk {
         Walk::Near => false,

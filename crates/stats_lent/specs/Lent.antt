@@ -40,7 +40,7 @@ module _ (n m : ℕ) (few : n ≤ 16 → m ≡ n) (all : 16 < n → m ≡ 16) wh
       (λ l. ap (λ (k : ℕ). eqb k 8) (length-take-le m zeros (omega (arith, few l)) ∙ few l))
       (below_or 16 n)
 
-  module _ (h : Header) (pairs ts ls bs : List ℕ) {r : Result Totals Refusal} {rows : List Tally} (P : told_totals r rows ≡ statistics (config h pairs) ts ls bs (take m zeros)) where
+  module _ (h : Header) (pairs ts ls bs : List ℕ) (r : Result Totals Refusal) (rows : List Tally) (P : told_totals r rows ≡ statistics (config h pairs) ts ls bs (take m zeros)) where
     -- any other answer that satisfies the promise is the same
     same : (u : Result Totals Refusal) (others : List Tally) → told_totals u others ≡ statistics (config h pairs) ts ls bs (take m zeros)
         → answer r (rows ++ drop m zeros) ≡ answer u (others ++ drop m zeros)
@@ -56,11 +56,15 @@ module _ (n m : ℕ) (few : n ≤ 16 → m ≡ n) (all : 16 < n → m ≡ 16) wh
     told-by true false p q = same (Err Refusal.Rows) (take m zeros) (rw (p, lent-eight ∙ q)) ∙ rw (p, q)
     told-by false e p q = same (Err Refusal.Broken) (take m zeros) (rw p) ∙ rw p
 
-    -- refused, it is the report
+    -- by value it is the report
+    pub told_is : answer r (rows ++ drop m zeros) ≡ stats_of (config h pairs) ts ls bs n
+    told_is = told-by _ _ refl refl
+
+    -- refused
     pub lent-refused : {x : Refusal} → r ≡ Err x → Err x ≡ stats_of (config h pairs) ts ls bs n
-    lent-refused e = subst (λ (z : Result Totals Refusal). answer z (rows ++ drop m zeros) ≡ stats_of (config h pairs) ts ls bs n) e (told-by _ _ refl refl)
+    lent-refused e = subst (λ (z : Result Totals Refusal). answer z (rows ++ drop m zeros) ≡ stats_of (config h pairs) ts ls bs n) e told_is
 
     -- and done, with the first eight rows
     pub lent-done : {t : Totals} {ys : List Tally} → r ≡ Ok t → ys ≡ take 8 (rows ++ drop m zeros) → Ok (record { totals = t; rows = ys }) ≡ stats_of (config h pairs) ts ls bs n
     lent-done e f =
-        rw f (subst (λ (z : Result Totals Refusal). answer z (rows ++ drop m zeros) ≡ stats_of (config h pairs) ts ls bs n) e (told-by _ _ refl refl))
+        rw f (subst (λ (z : Result Totals Refusal). answer z (rows ++ drop m zeros) ≡ stats_of (config h pairs) ts ls bs n) e told_is)

@@ -39,8 +39,8 @@ module _ (c : Config) (ts ls bs : List ℕ) (rows : List Tally) where
     told-is = subst (λ (x : Result Stats Refusal). report x rows ≡ statistics c ts ls bs rows) (sym of) (told-by _ _ refl refl)
 
     -- a refusal leaves the rows
-    pub left : {x : Refusal} → r ≡ Err x → told_totals (Err x) rows ≡ statistics c ts ls bs rows
-    left e = subst (λ (y : Result Stats Refusal). report y rows ≡ statistics c ts ls bs rows) e told-is
+    pub kept : {x : Refusal} → r ≡ Err x → told_totals (Err x) rows ≡ statistics c ts ls bs rows
+    kept e = subst (λ (y : Result Stats Refusal). report y rows ≡ statistics c ts ls bs rows) e told-is
 
     -- a call that is done fills them
     pub filled : {s : Stats} → r ≡ Ok s → told_totals (Ok s.totals) s.rows ≡ statistics c ts ls bs rows
@@ -55,3 +55,19 @@ module _ (c : Config) (ts ls bs : List ℕ) (rows : List Tally) where
   -- so eight rows are lent
   pub full : {r : Result Stats Refusal} {s : Stats} → r ≡ stats_of c ts ls bs (length rows) → r ≡ Ok s → length rows ≡ 8
   full of e = full-by _ _ refl refl (sym e ∙ of)
+
+  -- the rows of a call that is done
+  Eight : Result Stats Refusal → Type 0
+  Eight (Ok s) = length s.rows ≡ 8
+  Eight (Err x) = Unit {0}
+
+  eight-by : (s : Bool) (n : ℕ) (e : Bool) → standing c ts ls bs ≡ s → eqb n 8 ≡ e → Eight (stats_of c ts ls bs n)
+  unfolding stats_of ifte tallies Eight
+  eight-by true n true p q = rw (p, q) refl
+  eight-by true n false p q = rw (p, q) tt
+  eight-by false n e p q = rw p tt
+
+  -- are eight
+  pub eight : {r : Result Stats Refusal} {s : Stats} (n : ℕ) → r ≡ stats_of c ts ls bs n → r ≡ Ok s → length s.rows ≡ 8
+  unfolding Eight
+  eight n of e = subst Eight e (subst Eight (sym of) (eight-by _ n _ refl refl))

@@ -81,7 +81,7 @@ refused Refusal.Rows e = absurd (omega (arith, e))
 -- and no two outcomes
 pub same_outcome : (x y : Result ⊤ Refusal) → outcome_of x ≡ outcome_of y → x ≡ y
 unfolding outcome_of
-same_outcome (Ok u) (Ok u) e = refl
+same_outcome (Ok u) (Ok v) e = refl
 same_outcome (Ok u) (Err y) e = refused y (sym e)
 same_outcome (Err x) (Ok u) e = refused x e
 same_outcome (Err x) (Err y) e = ap Err (same-refusal x y e)

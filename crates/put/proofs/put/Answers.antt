@@ -1,5 +1,6 @@
 -- `put::put` meets its contract. Assumes nothing.
 use mathlib.Core.Path.{sym, ◌∙◌}
+use Rattle.std.proofs.lemmas.Result.{err_from_is_err_and}
 use Rattle.test_arguments.specs.Checked.{checked-fits}
 use Rattle.law_calls.specs.Tested.{standing-accepted}
 use Rattle.test_arguments.specs.Refusals.{done-checked, state-broken, argument-refused, tests-passed}
@@ -13,7 +14,8 @@ returns-then-not-stands c = state-broken _ _ _ _ _ c.stands.ensures c.if-not-sta
 pub returns-in_err-check : goal.returns-in_err-check
 unfolding put outcome_of
 returns-in_err-check c =
-    rw c.from_residual.ensures
+    let p = err_from_is_err_and c.from_residual.result c.from_residual.ensures.1 in
+    rw (p.1, p.2)
     (argument-refused _ _ _ _ _
     c.stands.ensures
     c.if-not-stands.false
