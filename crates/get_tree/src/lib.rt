@@ -67,11 +67,7 @@ fn steals(walk: Walk) -> bool
     ensures { (c : Config) (q : Request) (j t : ℕ) (s : State) → access c q walk j t s
         ≡ ifte result (λ _. steal_global c q None t s) (λ _. reserve_or_steal c q j t s) }
 {
-    match walk {
-        Walk::Near => false,
-        Walk::Far => false,
-        Walk::Stealing => true,
-    }
+    matches!(walk, Walk::Stealing)
 }
 
 // A tree that a walk has found is tried.
