@@ -6,18 +6,11 @@ ghost use Rattle.test_fits.specs.Room.{Room};
 ghost use Rattle.get_best.specs.List.{list_of};
 ghost use Rattle.get_walk.specs.Walked.{enlisted, WalkedOn};
 
+mod path;
+
+pub use path::Path;
 use rules_calls::Walk;
 use test_fits::Ask;
-
-// A walk: the length of its list, the number of trees, the start, the steps from the first up to the last.
-#[derive(Clone, Copy)]
-pub struct Path {
-    pub m: usize,
-    pub n: usize,
-    pub start: usize,
-    pub first: usize,
-    pub last: usize,
-}
 
 // Where a walk stands: the step, the list of the best, the looks.
 #[derive(Clone, Copy)]
@@ -40,7 +33,7 @@ fn offer(best: [u64; 8], m: usize, r: usize, free: usize, t: usize) -> [u64; 8]
 
 // A walk from where it stands on: as far as the next tree that is tried at once (Match 255), or to its last step.
 pub fn walk_on(a: Ask, table: &[u32; 64], trees: &[u32], w: Walk, p: Path, from: Stand) -> Stand
-    requires { (p.m ≤ 8) × (((0 < p.n) × (p.n ≤ 1024)) × ((p.start < 2 ^ 44) × ((p.last ≤ 1024) × Room (p.last - from.at) from.looks))) }
+    requires { Room (p.last - from.at) from.looks }
     ensures { WalkedOn table.now a.q w p trees.now from.at (list_of p.m from.best) from.looks result }
 {
     let mut s = from;
