@@ -5,53 +5,45 @@ ghost use Rattle.std.specs.Prelude.{◌≡◌, List, ℕ};
 ghost use Rattle.rules_calls.specs.State.{st, ended, done, missed, missed_at, stuck};
 ghost use Rattle.get_ends.specs.Ends.{ends};
 
-use rules_calls::{Got, Routed};
+use rules_calls::{Counts, Got, Routed};
 
 // A route that found a frame, for a class.
-pub fn done(frame: usize, class: usize, looks: usize, tries: usize) -> Routed
-    ensures { ((t l b : List ℕ) → ended result t l b ≡ done frame class (st t l b looks tries)) × ((result.looks ≡ looks) × (result.tries ≡ tries)) }
+pub fn done(frame: usize, class: usize, counts: Counts) -> Routed
+    ensures { ((t l b : List ℕ) → ended result t l b ≡ done frame class (st t l b counts.looks counts.tries)) × (result.counts ≡ counts) }
 {
-    let got = Got::Done {
-        frame: frame,
-        class: class,
-    };
     Routed {
-        got: got,
-        looks: looks,
-        tries: tries,
+        got: Got::Done { frame, class },
+        counts,
     }
 }
 
 // A route that came back empty.
-pub fn missed(looks: usize, tries: usize) -> Routed
-    ensures { ((t l b : List ℕ) → ended result t l b ≡ missed (st t l b looks tries)) × ((result.looks ≡ looks) × (result.tries ≡ tries)) }
+pub fn missed(counts: Counts) -> Routed
+    ensures { ((t l b : List ℕ) → ended result t l b ≡ missed (st t l b counts.looks counts.tries)) × (result.counts ≡ counts) }
 {
     Routed {
         got: Got::Missed,
-        looks: looks,
-        tries: tries,
+        counts,
     }
 }
 
 // The same, with a present own reservation on a tree.
-pub fn missed_at(tree: usize, looks: usize, tries: usize) -> Routed
-    ensures { ((t l b : List ℕ) → ended result t l b ≡ missed_at tree (st t l b looks tries)) × ((result.looks ≡ looks) × (result.tries ≡ tries)) }
+pub fn missed_at(tree: usize, counts: Counts) -> Routed
+    ensures { ((t l b : List ℕ) → ended result t l b ≡ missed_at tree (st t l b counts.looks counts.tries)) × (result.counts ≡ counts) }
 {
     Routed {
         got: Got::MissedAt(tree),
-        looks: looks,
-        tries: tries,
+        counts,
     }
 }
 
 // A return of a reservation that was refused.
-pub fn stuck(looks: usize, tries: usize) -> Routed
-    ensures { ((t l b : List ℕ) → ended result t l b ≡ stuck (st t l b looks tries)) × ((result.looks ≡ looks) × (result.tries ≡ tries)) }
+pub fn stuck(counts: Counts) -> Routed
+    ensures { ((t l b : List ℕ) → ended result t l b ≡ stuck (st t l b counts.looks counts.tries)) × (result.counts ≡ counts) }
 {
     Routed {
         got: Got::Stuck,
-        looks: looks,
-        tries: tries,
+        counts,
     }
 }
 

@@ -31,7 +31,7 @@ Way = Out Got State
 
 -- what a function of the code answers and leaves
 abbrev pub ended : Routed → List ℕ → List ℕ → List ℕ → Way
-ended r t l b = out r.got (st t l b r.looks r.tries)
+ended r t l b = out r.got (st t l b r.counts.looks r.counts.tries)
 
 -- the frames asked for, 2^order
 abbrev pub size : Request → ℕ

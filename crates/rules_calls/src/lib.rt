@@ -10,12 +10,18 @@ pub enum Got {
     Stuck,
 }
 
-// How a route ends, and the counts: looks (entries read by walks) and tries (lower calls).
+// The counts of a get: looks (entries read by walks) and tries (lower calls).
+#[derive(Clone, Copy)]
+pub struct Counts {
+    pub looks: usize,
+    pub tries: usize,
+}
+
+// How a route ends, and the counts.
 #[derive(Clone, Copy)]
 pub struct Routed {
     pub got: Got,
-    pub looks: usize,
-    pub tries: usize,
+    pub counts: Counts,
 }
 
 // The walks of the searches: reserving near, reserving far, stealing.

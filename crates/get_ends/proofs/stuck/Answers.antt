@@ -5,4 +5,4 @@ use Rattle.get_ends.proofs.stuck.Goals as goal
 
 pub returns : goal.returns
 unfolding stuck
-returns c = (λ t l b. refl, (refl, refl))
+returns c = (λ t l b. refl, refl)

@@ -10,7 +10,7 @@ returns-in-Some c = (
       c.lower_get.ensures
       c.in-Some.is
       (c.done.ensures.0 _ _ _),
-  omega (arith, c.done.ensures.1),
+  rw c.done.ensures.1 (omega arith),
 )
 
 pub returns-in-None : goal.returns-in-None
@@ -22,5 +22,5 @@ returns-in-None c = (
       c.size.ensures.0
       c.put.ensures
       (c.missed.ensures.0 _ _ _),
-  omega (arith, c.missed.ensures.1),
+  rw c.missed.ensures.1 (omega arith),
 )
