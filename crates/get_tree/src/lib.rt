@@ -7,66 +7,57 @@ ghost use Rattle.rules.specs.Words.{Config, config};
 ghost use Rattle.rules.specs.declared.Request.{Request};
 ghost use Rattle.rules_calls.specs.State.{State, st, ended};
 ghost use Rattle.rules_calls.specs.Walking.{steal_global, reserve_or_steal, access};
-ghost use Rattle.test_fits.specs.Fits.{Fits};
 ghost use Rattle.test_fits.specs.Room.{Room};
 
-use rules::{Header, Request, Taken};
-use rules_calls::{Routed, Walk};
+use rules::Taken;
+use rules_calls::{Counts, Routed, Walk};
+use test_fits::Ask;
 
 // Steal globally, from the entry of tree t.
 pub fn steal_global(
-    h: Header,
+    a: Ask,
     table: &[u32; 64],
     trees: &mut [u32],
     locals: &mut [u64],
     bits: &mut [u64],
-    q: Request,
     name: Option<usize>,
     t: usize,
-    looks: usize,
-    tries: usize,
+    counts: Counts,
 ) -> Routed
-    requires { Fits h q × ((t < 2 ^ 53) × Room 1 tries) }
+    requires { (t < 2 ^ 53) × Room 1 counts.tries }
     ensures { (ended result trees.new locals.new bits.new
-        ≡ steal_global (config h table.now) q name t (st trees.old locals.old bits.old looks tries))
-        × ((result.looks ≤ looks) × (result.tries ≤ tries + 1)) }
+        ≡ steal_global (config a.h table.now) a.q name t (st trees.old locals.old bits.old counts.looks counts.tries))
+        × ((result.counts.looks ≤ counts.looks) × (result.counts.tries ≤ counts.tries + 1)) }
 {
-    match tree_words::steal(table, trees, t, q.class, word_sizes::size(q.order)) {
-        None => get_ends::missed(looks, tries),
-        Some(e) => {
-            let row = t * 32;
-            get_steps::ask_lower(h, table, trees, bits, q, name, row, e.class, looks, tries)
-        }
+    match tree_words::steal(table, trees, t, a.q.class, word_sizes::size(a.q.order)) {
+        None => get_ends::missed(counts),
+        Some(e) => get_steps::ask_lower(a, table, trees, bits, name, t * 32, e.class, counts),
     }
 }
 
 // Reserve or steal tree t for the local j.
 fn reserve_or_steal(
-    h: Header,
+    a: Ask,
     table: &[u32; 64],
     trees: &mut [u32],
     locals: &mut [u64],
     bits: &mut [u64],
-    q: Request,
     j: usize,
     t: usize,
-    looks: usize,
-    tries: usize,
+    counts: Counts,
 ) -> Routed
-    requires { Fits h q × ((t < 2 ^ 53) × Room 1 tries) }
+    requires { (t < 2 ^ 53) × Room 1 counts.tries }
     ensures { (ended result trees.new locals.new bits.new
-        ≡ reserve_or_steal (config h table.now) q j t (st trees.old locals.old bits.old looks tries))
-        × ((result.looks ≤ looks) × (result.tries ≤ tries + 1)) }
+        ≡ reserve_or_steal (config a.h table.now) a.q j t (st trees.old locals.old bits.old counts.looks counts.tries))
+        × ((result.counts.looks ≤ counts.looks) × (result.counts.tries ≤ counts.tries + 1)) }
 {
-    match tree_words::reserve_or_steal(table, trees, t, q.class, word_sizes::size(q.order)) {
-        None => get_ends::missed(looks, tries),
+    match tree_words::reserve_or_steal(table, trees, t, a.q.class, word_sizes::size(a.q.order)) {
+        None => get_ends::missed(counts),
         Some(Taken::Part(e)) => {
-            let name = None;
-            let row = t * 32;
-            get_steps::ask_lower(h, table, trees, bits, q, name, row, e.class, looks, tries)
+            get_steps::ask_lower(a, table, trees, bits, None, t * 32, e.class, counts)
         }
-        Some(Taken::Whole(e, old)) => {
-            get_reserved::reserved(h, table, trees, locals, bits, q, j, t, old, looks, tries)
+        Some(Taken::Whole(_, old)) => {
+            get_reserved::reserved(a, table, trees, locals, bits, j, t, old, counts)
         }
     }
 }
@@ -76,34 +67,28 @@ fn steals(walk: Walk) -> bool
     ensures { (c : Config) (q : Request) (j t : ℕ) (s : State) → access c q walk j t s
         ≡ ifte result (λ _. steal_global c q None t s) (λ _. reserve_or_steal c q j t s) }
 {
-    match walk {
-        Walk::Near => false,
-        Walk::Far => false,
-        Walk::Stealing => true,
-    }
+    matches!(walk, Walk::Stealing)
 }
 
 // A tree that a walk has found is tried.
 pub fn access(
-    h: Header,
+    a: Ask,
     table: &[u32; 64],
     trees: &mut [u32],
     locals: &mut [u64],
     bits: &mut [u64],
-    q: Request,
     walk: Walk,
     j: usize,
     t: usize,
-    looks: usize,
-    tries: usize,
+    counts: Counts,
 ) -> Routed
-    requires { Fits h q × ((t < 2 ^ 53) × Room 1 tries) }
+    requires { (t < 2 ^ 53) × Room 1 counts.tries }
     ensures { (ended result trees.new locals.new bits.new
-        ≡ access (config h table.now) q walk j t (st trees.old locals.old bits.old looks tries))
-        × ((result.looks ≤ looks) × (result.tries ≤ tries + 1)) }
+        ≡ access (config a.h table.now) a.q walk j t (st trees.old locals.old bits.old counts.looks counts.tries))
+        × ((result.counts.looks ≤ counts.looks) × (result.counts.tries ≤ counts.tries + 1)) }
 {
     if steals(walk) {
-        return steal_global(h, table, trees, locals, bits, q, None, t, looks, tries);
+        return steal_global(a, table, trees, locals, bits, None, t, counts);
     }
-    reserve_or_steal(h, table, trees, locals, bits, q, j, t, looks, tries)
+    reserve_or_steal(a, table, trees, locals, bits, j, t, counts)
 }

@@ -13,7 +13,7 @@ use Rattle.rules_calls.specs.declared.Got.{Got}
 use Rattle.rules_calls.specs.declared.Walk.{Walk}
 use Rattle.rules_calls.specs.State.{State, st, with_look}
 use Rattle.get_best.specs.List.{list_of}
-use Rattle.get_walk.specs.declared.Path.{Path}
+use Rattle.get_walk.specs.declared.path.Path.{Path}
 use Rattle.get_walk.specs.declared.Stand.{Stand}
 use Rattle.get_ends.specs.Ends.{ends, sight-ends, sight-goes}
 use Rattle.rules_calls.specs.Walking.{Candidate, Sight, sight, walk_tree, is_full, rate, admit, access, tried, offered, visit, on_sight, walk_steps, walk}

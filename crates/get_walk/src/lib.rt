@@ -6,18 +6,11 @@ ghost use Rattle.test_fits.specs.Room.{Room};
 ghost use Rattle.get_best.specs.List.{list_of};
 ghost use Rattle.get_walk.specs.Walked.{enlisted, WalkedOn};
 
-use rules::Request;
-use rules_calls::Walk;
+mod path;
 
-// A walk: the length of its list, the number of trees, the start, the steps from the first up to the last.
-#[derive(Clone, Copy)]
-pub struct Path {
-    pub m: usize,
-    pub n: usize,
-    pub start: usize,
-    pub first: usize,
-    pub last: usize,
-}
+pub use path::Path;
+use rules_calls::Walk;
+use test_fits::Ask;
 
 // Where a walk stands: the step, the list of the best, the looks.
 #[derive(Clone, Copy)]
@@ -38,42 +31,24 @@ fn offer(best: [u64; 8], m: usize, r: usize, free: usize, t: usize) -> [u64; 8]
     get_best::admit(best, m, get_best::key(r, free), t)
 }
 
-// A walk from step i on: as far as the next tree that is tried at once (Match 255), or to its last step.
-pub fn walk_on(
-    table: &[u32; 64],
-    trees: &[u32],
-    q: Request,
-    w: Walk,
-    p: Path,
-    i: usize,
-    best: [u64; 8],
-    looks: usize,
-) -> Stand
-    requires { (q.order ≤ 11) × ((q.class < 8) × ((p.m ≤ 8) × (((0 < p.n) × (p.n ≤ 1024)) × ((p.start < 2 ^ 44) × ((p.last ≤ 1024) × Room (p.last - i) looks))))) }
-    ensures { WalkedOn table.now q w p trees.now i (list_of p.m best) looks result }
+// A walk from where it stands on: as far as the next tree that is tried at once (Match 255), or to its last step.
+pub fn walk_on(a: Ask, table: &[u32; 64], trees: &[u32], w: Walk, p: Path, from: Stand) -> Stand
+    requires { Room (p.last - from.at) from.looks }
+    ensures { WalkedOn table.now a.q w p trees.now from.at (list_of p.m from.best) from.looks result }
 {
-    let mut list = best;
-    let mut seen = looks;
-    let mut k = i;
-    while k < p.last {
+    let mut s = from;
+    for k in from.at..p.last {
         let t = get_walk_trees::walk_tree(p.n, p.start, k);
         let e = tree_words::load(trees, t);
-        let r = get_rating::rate(table, q, w, e);
+        let r = get_rating::rate(table, a.q, w, e);
         if r == 258 {
-            return Stand {
-                at: k,
-                best: list,
-                looks: seen,
-            };
+            return s;
         }
-        let more = offer(list, p.m, r, e.free, t);
-        list = more;
-        seen += 1;
-        k += 1;
+        s = Stand {
+            at: k + 1,
+            best: offer(s.best, p.m, r, e.free, t),
+            looks: s.looks + 1,
+        };
     }
-    Stand {
-        at: k,
-        best: list,
-        looks: seen,
-    }
+    s
 }

@@ -5,8 +5,8 @@ use Rattle.get_reserved.proofs.or_stuck.Goals as goal
 
 pub returns-then-returned : goal.returns-then-returned
 unfolding ifte
-returns-then-returned c = (λ t l b. rw c.if-returned.true, (refl, refl))
+returns-then-returned c = (λ t l b. rw c.if-returned.true, refl)
 
-pub returns : goal.returns
+pub returns-else-returned : goal.returns-else-returned
 unfolding ifte
-returns c = (λ t l b. rw c.if-returned.false (c.stuck.ensures.0 t l b), c.stuck.ensures.1)
+returns-else-returned c = (λ t l b. rw c.if-returned.false (c.stuck.ensures.0 t l b), c.stuck.ensures.1)

@@ -10,7 +10,7 @@ returns-in-None c = (
       (c.steal.ensures _)
       c.in-None.is
       (c.missed.ensures.0 _ _ _),
-  omega (arith, c.missed.ensures.1),
+  rw c.missed.ensures.1 (omega arith),
 )
 
 pub returns-in-Some : goal.returns-in-Some

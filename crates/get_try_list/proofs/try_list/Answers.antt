@@ -25,20 +25,14 @@ unfolding try_list
 returns-then-x-eq0 c =
     let l = c.loop-k in
     let t = c.loop-k-test.true in
-    (rw (← l.invariant.same-list, from-none _ _ _ t l.invariant.places c.if-x-eq0.true) (c.missed.ensures.0 _ _ _), omega (arith, c.missed.ensures.1, l.invariant.most, l.invariant.seen_most, l.invariant.asked-most))
-
-pub access-a-requires : goal.access-a-requires
-access-a-requires c =
-    let l = c.loop-k.invariant in
-    let p = c.requires in
-    (p.0, (search rules, omega (arith, l.asked-most, c.loop-k-test.true, p.1)))
+    (rw (← l.invariant.same-list, from-none _ _ _ t l.invariant.places c.if-x-eq0.true) (c.missed.ensures.0 _ _ _), rw c.missed.ensures.1 (omega (arith, l.invariant.most, l.invariant.seen_most, l.invariant.asked-most)))
 
 pub returns-then-ends : goal.returns-then-ends
 unfolding try_list
 returns-then-ends c =
     let l = c.loop-k in
     let t = c.loop-k-test.true in
-    let v = c.access-a in (
+    let v = c.access-r in (
       rw (
         ← l.invariant.same-list,
         from_more _ _ _ t l.invariant.places c.if-x-eq0.false,
@@ -53,7 +47,7 @@ unfolding try_list
 loop-k-preserved c =
     let l = c.loop-k in
     let t = c.loop-k-test.true in
-    let v = c.access-a in
+    let v = c.access-r in
     record {
       most = omega (arith, t);
       seen_most = omega (arith, l.invariant.seen_most, v.ensures.1);

@@ -1,6 +1,6 @@
 -- `get_try_list::try_list` meets its contract: at each turn the list from here is the list from the start. Assumes nothing.
 use mathlib.Core.Path.{◌≡◌}
-use Prim.Native.Nat.{◌-◌, ◌+◌, ◌≤◌}
+use Prim.Native.Nat.{◌+◌, ◌≤◌}
 use lib.ListN.{length}
 use Rattle.rules.specs.Words.{config}
 use Rattle.rules_calls.specs.State.{st}
@@ -12,16 +12,12 @@ abbrev pub invariant-loop-k : goal.invariant-loop-k
 invariant-loop-k l =
     record {
       most : l.k ≤ l.m;
-      seen_most : l.seen ≤ l.looks;
-      asked-most : l.asked ≤ l.tries + l.k;
+      seen_most : l.so_far.looks ≤ l.fn.counts.looks;
+      asked-most : l.so_far.tries ≤ l.fn.counts.tries + l.k;
       places : l.m ≤ length l.best;
       len_t : length l.trees ≡ length l.initial.trees;
       len-l : length l.locals ≡ length l.initial.locals;
       len-b : length l.bits ≡ length l.initial.bits;
-      same-list : try_list (config l.h l.table) l.q l.w l.j (list_from l.k l.m l.best) (st l.trees l.locals l.bits l.seen l.asked)
-          ≡ try_list (config l.h l.table) l.q l.w l.j (list_of l.m l.best) (st l.initial.trees l.initial.locals l.initial.bits l.looks l.tries);
+      same-list : try_list (config l.a.h l.table) l.a.q l.w l.j (list_from l.k l.m l.best) (st l.trees l.locals l.bits l.so_far.looks l.so_far.tries)
+          ≡ try_list (config l.a.h l.table) l.a.q l.w l.j (list_of l.m l.best) (st l.initial.trees l.initial.locals l.initial.bits l.fn.counts.looks l.fn.counts.tries);
     }
-
-abbrev pub decreases-loop-k : goal.decreases-loop-k
-decreases-loop-k l =
-    l.m - l.k
