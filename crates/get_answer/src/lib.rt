@@ -29,7 +29,7 @@ pub fn reply(r: Routed) -> Reply
     };
     Reply {
         granted,
-        looks: r.looks,
-        tries: r.tries,
+        looks: r.counts.looks,
+        tries: r.counts.tries,
     }
 }

@@ -5,6 +5,7 @@ ghost use Rattle.rules_calls.specs.Promises.{words, PutPromise};
 
 use rules::{Header, Request};
 use rules_calls::Refusal;
+use test_fits::Ask;
 
 // A put of the block at a frame.
 pub fn put(
@@ -23,5 +24,5 @@ pub fn put(
         return Err(Refusal::Broken);
     }
     test_arguments::check(h, q, frame)?;
-    put_body::put_body(h, table, trees, locals, bits, q, frame)
+    put_body::put_body(Ask { h, q }, table, trees, locals, bits, frame)
 }

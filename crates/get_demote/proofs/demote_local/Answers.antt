@@ -11,11 +11,11 @@ returns-in_default c = (
       c.demote_any.ensures
       c.in_default.is
       (c.missed.ensures.0 _ _ _),
-  omega (arith, c.missed.ensures.1),
+  rw c.missed.ensures.1 (omega arith),
 )
 
 pub demote_to-requires : goal.demote_to-requires
-demote_to-requires c = (c.requires.0, (omega (arith, c.clear-l.ensures.1), c.requires.1))
+demote_to-requires c = (omega (arith, c.clear-l.ensures.1), c.requires)
 
 pub returns : goal.returns
 returns c = (

@@ -6,7 +6,7 @@ use Rattle.get_demote.specs.Demoted.{displaced, displaced-stuck, itself, itself-
 use Rattle.get_demote.proofs.demote_to.Goals as goal
 
 pub slot-requires : goal.slot-requires
-slot-requires c = (search rules, given-small _ _ c.in-Some.is c.requires.0.index)
+slot-requires c = (search rules, given-small _ _ c.in-Some.is c.args.a.fits.index)
 
 pub returns-then-not-unreserve_local : goal.returns-then-not-unreserve_local
 returns-then-not-unreserve_local c = (
@@ -17,7 +17,7 @@ returns-then-not-unreserve_local c = (
       c.unreserve_local.ensures
       c.if-not-unreserve_local.true
       (c.stuck.ensures.0 _ _ _),
-  omega (arith, c.stuck.ensures.1),
+  rw c.stuck.ensures.1 (omega arith),
 )
 
 pub returns-then-not-unreserve : goal.returns-then-not-unreserve
@@ -27,7 +27,7 @@ returns-then-not-unreserve c = (
       c.unreserve.ensures
       c.if-not-unreserve.true
       (c.stuck-then-not-unreserve.ensures.0 _ _ _),
-  omega (arith, c.stuck-then-not-unreserve.ensures.1),
+  rw c.stuck-then-not-unreserve.ensures.1 (omega arith),
 )
 
 pub returns-else-not-unreserve_local : goal.returns-else-not-unreserve_local

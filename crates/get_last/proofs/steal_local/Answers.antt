@@ -12,7 +12,7 @@ returns-in_default c = (
       c.steal_any.ensures
       c.in_default.is
       (c.missed.ensures.0 _ _ _),
-  omega (arith, c.missed.ensures.1),
+  rw c.missed.ensures.1 (omega arith),
 )
 
 pub returns : goal.returns

@@ -4,42 +4,42 @@ use mathlib.Core.Path.{refl, sym, ◌∙◌}
 use native.Mathlib.Omega.{arith}
 use Rattle.get_named.proofs.get_at.Goals as goal
 
-pub own_local-a-requires : goal.own_local-a-requires
-own_local-a-requires c = (c.requires.0, (c.requires.0.index, omega (arith, c.requires.1)))
+pub own_local-own-requires : goal.own_local-own-requires
+own_local-own-requires c = (c.args.a.fits.index, omega arith)
 
 pub returns-then-ends : goal.returns-then-ends
 returns-then-ends c = (
   at_own _ _ _ _
-      c.own_local-a.ensures.0
+      c.own_local-own.ensures.0
       (sym c.ends.ensures ∙ c.if-ends.true),
-  omega (arith, c.own_local-a.ensures.1),
+  omega (arith, c.own_local-own.ensures.1),
 )
 
 pub steal_global-r-requires : goal.steal_global-r-requires
-steal_global-r-requires c = (c.requires.0, (omega arith, omega (arith, c.own_local-a.ensures.1, c.requires.1)))
+steal_global-r-requires c = (omega arith, omega (arith, c.own_local-own.ensures.1, c.requires))
 
 pub returns-then-ends-2 : goal.returns-then-ends-2
 returns-then-ends-2 c = (
   at-tree _ _ _ _
-      c.own_local-a.ensures.0
+      c.own_local-own.ensures.0
       (sym c.ends.ensures ∙ c.if-ends.false)
       c.steal_global-r.ensures.0
       refl
       (sym c.ends-2.ensures ∙ c.if-ends-2.true),
-  omega (arith, c.own_local-a.ensures.1, c.steal_global-r.ensures.1),
+  omega (arith, c.own_local-own.ensures.1, c.steal_global-r.ensures.1),
 )
 
 pub last_routes-requires : goal.last_routes-requires
-last_routes-requires c = (c.requires.0, omega (arith, c.own_local-a.ensures.1, c.steal_global-r.ensures.1, c.requires.1))
+last_routes-requires c = omega (arith, c.own_local-own.ensures.1, c.steal_global-r.ensures.1, c.requires)
 
 pub returns : goal.returns
 returns c = (
   at_last _ _ _ _
-      c.own_local-a.ensures.0
+      c.own_local-own.ensures.0
       (sym c.ends.ensures ∙ c.if-ends.false)
       c.steal_global-r.ensures.0
       refl
       (sym c.ends-2.ensures ∙ c.if-ends-2.false)
       c.last_routes.ensures.0,
-  omega (arith, c.own_local-a.ensures.1, c.steal_global-r.ensures.1, c.last_routes.ensures.1),
+  omega (arith, c.own_local-own.ensures.1, c.steal_global-r.ensures.1, c.last_routes.ensures.1),
 )

@@ -5,7 +5,7 @@ use borrow.Author.Rules.{rules}
 use Rattle.get_own.proofs.own_local.Goals as goal
 
 pub slot-j-requires : goal.slot-j-requires
-slot-j-requires c = (search rules, given-small _ _ c.in-Some.is c.requires.1.0)
+slot-j-requires c = (search rules, given-small _ _ c.in-Some.is c.requires.0)
 
 pub returns-in-Some : goal.returns-in-Some
 unfolding own_local

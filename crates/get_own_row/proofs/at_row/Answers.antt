@@ -10,7 +10,7 @@ returns-in-Some c = (
       c.in-Some.is
       c.set_start.ensures
       (c.done.ensures.0 _ _ _),
-  omega (arith, c.done.ensures.1),
+  rw c.done.ensures.1 (omega arith),
 )
 
 pub returns-in-None : goal.returns-in-None
@@ -21,5 +21,5 @@ returns-in-None c = (
       c.size.ensures.0
       c.put.ensures
       (c.missed_at.ensures.0 _ _ _),
-  omega (arith, c.missed_at.ensures.1),
+  rw c.missed_at.ensures.1 (omega arith),
 )

@@ -22,10 +22,12 @@ returns-in_err-check c =
     (c.check.ensures _)
     c.in_err-check.was)
 
-pub put_body-requires : goal.put_body-requires
-put_body-requires c =
-    checked-fits _ _ _ _ (standing-accepted _ _ _ _ (sym c.stands.ensures ∙ c.if-not-stands.false))
-    (done-checked _ _ (c.check.ensures _) c.in_ok-check.was)
+pub invariant_of-put_body : goal.invariant_of-put_body
+invariant_of-put_body c =
+    record {
+      fits = checked-fits _ _ _ _ (standing-accepted _ _ _ _ (sym c.stands.ensures ∙ c.if-not-stands.false))
+          (done-checked _ _ (c.check.ensures _) c.in_ok-check.was);
+    }
 
 pub returns : goal.returns
 unfolding put

@@ -3,13 +3,12 @@ use Rattle.rules_calls.specs.Calls.{on_given, outcome_of, number_of}
 use Rattle.rules_calls.specs.State.{with_bits}
 use Rattle.put_body.proofs.put_body.Goals as goal
 
-pub returns-then-lower_put : goal.returns-then-lower_put
+pub returns-then-not-lower_put : goal.returns-then-not-lower_put
 unfolding on_given outcome_of number_of with_bits
-returns-then-lower_put c =
+returns-then-not-lower_put c =
     rw (
       ← c.lower_put.ensures,
-      c.if-lower_put.true,
-      ← c.put_to.ensures _,
+      c.if-not-lower_put.true,
     )
 
 pub returns : goal.returns
@@ -17,5 +16,6 @@ unfolding on_given outcome_of number_of with_bits
 returns c =
     rw (
       ← c.lower_put.ensures,
-      c.if-lower_put.false,
+      c.if-not-lower_put.false,
+      ← c.put_to.ensures _,
     )

@@ -2,12 +2,13 @@
 use Rattle.rules_calls.specs.State.{index_of}
 use Rattle.put_body.specs.PutTo.{to-entry, to-local, past-local}
 use native.Mathlib.Omega.{arith}
+use Rattle.put_body.proofs.put_to.Goals.{in-Some+else-put, in_default}
 use Rattle.put_body.proofs.put_to.Goals as goal
 
 pub slot-j-requires : goal.slot-j-requires
 unfolding index_of
 slot-j-requires c =
-    let l = rw c.in-Some.is at c.requires.1 in
+    let l = rw c.in-Some.is at c.requires in
     omega arith
 
 pub returns-then-put : goal.returns-then-put
@@ -17,24 +18,24 @@ returns-then-put c =
     c.size-n.ensures.0
     c.in-Some.is
     c.slot-j.ensures
-    c.put-in-Some.ensures
+    c.put.ensures
     c.if-put.true
 
-pub returns-in-None : goal.returns-in-None
-returns-in-None c =
+pub returns : goal.returns
+returns c =
     λ b.
-    to-entry _ _ _ _ _ _
-    c.size-n.ensures.0
-    c.in-None.is
-    c.put.ensures
-
-pub returns-else-put : goal.returns-else-put
-returns-else-put c =
-    λ b.
-    past-local _ _ _ _ _ _
-    c.size-n.ensures.0
-    c.in-Some.is
-    c.slot-j.ensures
-    c.put-in-Some.ensures
-    c.if-put.false
-    c.put-in-Some-2.ensures
+    elim c.match-local.branch [
+      | in-Some+else-put w ↦ rw w.locals-is
+          (past-local _ _ _ _ _ _
+          c.size-n.ensures.0
+          w.in-Some.is
+          w.slot-j.ensures
+          w.put.ensures
+          w.if-put.false
+          c.put-2.ensures)
+      | in_default w ↦ rw w.locals-is
+          (to-entry _ _ _ _ _ _
+          c.size-n.ensures.0
+          w.in_default.is
+          c.put-2.ensures)
+    ]
