@@ -33,7 +33,7 @@ pub fn search_best(
         best: [0; 8],
         looks: counts.looks,
     };
-    let mut s = get_walk::walk_on(a, table, trees, w, p, first);
+    let mut s = get_walk::walk_on(a.q, table, trees, w, p, first);
     let mut tries = counts.tries;
     while s.at < p.last {
         let t = get_walk_trees::walk_tree(p.n, p.start, s.at);
@@ -50,7 +50,7 @@ pub fn search_best(
             looks: r.counts.looks,
             ..s
         };
-        s = get_walk::walk_on(a, table, trees, w, p, next);
+        s = get_walk::walk_on(a.q, table, trees, w, p, next);
         tries = r.counts.tries;
     }
     let seen = Counts {

@@ -9,8 +9,8 @@ ghost use Rattle.get_walk.specs.Walked.{enlisted, WalkedOn};
 mod path;
 
 pub use path::Path;
+use rules::Request;
 use rules_calls::Walk;
-use test_fits::Ask;
 
 // Where a walk stands: the step, the list of the best, the looks.
 #[derive(Clone, Copy)]
@@ -32,15 +32,22 @@ fn offer(best: [u64; 8], m: usize, r: usize, free: usize, t: usize) -> [u64; 8]
 }
 
 // A walk from where it stands on: as far as the next tree that is tried at once (Match 255), or to its last step.
-pub fn walk_on(a: Ask, table: &[u32; 64], trees: &[u32], w: Walk, p: Path, from: Stand) -> Stand
-    requires { Room (p.last - from.at) from.looks }
-    ensures { WalkedOn table.now a.q w p trees.now from.at (list_of p.m from.best) from.looks result }
+pub fn walk_on(
+    q: Request,
+    table: &[u32; 64],
+    trees: &[u32],
+    w: Walk,
+    p: Path,
+    from: Stand,
+) -> Stand
+    requires { (q.order ≤ 11) × ((q.class < 8) × Room (p.last - from.at) from.looks) }
+    ensures { WalkedOn table.now q w p trees.now from.at (list_of p.m from.best) from.looks result }
 {
     let mut s = from;
     for k in from.at..p.last {
         let t = get_walk_trees::walk_tree(p.n, p.start, k);
         let e = tree_words::load(trees, t);
-        let r = get_rating::rate(table, a.q, w, e);
+        let r = get_rating::rate(table, q, w, e);
         if r == 258 {
             return s;
         }

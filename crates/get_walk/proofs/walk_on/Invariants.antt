@@ -8,5 +8,5 @@ abbrev pub invariant-loop-k : goal.invariant-loop-k
 invariant-loop-k l =
     record {
       here : l.s.at ≡ l.k;
-      walked : Walked l.table l.a.q l.w l.p.m l.p.n l.p.start l.fn.from.at l.p.last (list_of l.p.m l.fn.from.best) l.trees l.fn.from.looks l.s.at (list_of l.p.m l.s.best) l.s.looks;
+      walked : Walked l.table l.q l.w l.p.m l.p.n l.p.start l.fn.from.at l.p.last (list_of l.p.m l.fn.from.best) l.trees l.fn.from.looks l.s.at (list_of l.p.m l.s.best) l.s.looks;
     }
