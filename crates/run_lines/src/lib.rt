@@ -3,10 +3,10 @@
 
 mod buffer;
 
-ghost use Rattle.std.specs.Prelude.{◌≡◌, ◌≤◌, ◌↔◌, [], IfSome, IsSome, drop, length};
+ghost use Rattle.std.specs.Prelude.{◌≡◌, ◌≤◌, ◌↔◌, [], ◌∷◌, IfNone, IfSome, IsSome, drop, length};
 ghost use Rattle.std.specs.Iterator.{YieldsFirstRef, item_count};
-ghost use Rattle.std.specs.List.{position_or_len};
-ghost use Rattle.run_lines.specs.Line.{is_space, words_of};
+ghost use Rattle.std.specs.List.{HoldsAt, position_or_len};
+ghost use Rattle.run_lines.specs.Line.{is_space, words_of, IsInDigits, IsNumber};
 
 pub use buffer::{keep, line_end};
 
@@ -52,6 +52,7 @@ impl<'a> Words<'a> {
     // The next word, where it is a number up to `most`.
     pub fn number(&mut self, most: u64) -> Option<u64>
         ensures bound { IfSome result (λ n. n ≤ most) }
+        ensures read { IfSome result (λ n. HoldsAt (λ word. IsNumber word n) (words_of self.old.0.now) 0) }
         ensures left { words_of self.new.0.now ≡ drop 1 (words_of self.old.0.now) }
     {
         up_to(self.next()?, most)
@@ -60,12 +61,15 @@ impl<'a> Words<'a> {
     // The next word, where it is a number up to `most`, or `-`, which is none.
     pub fn optional(&mut self, most: u64) -> Option<Option<u64>>
         ensures bound { IfSome result (λ given. IfSome given (λ n. n ≤ most)) }
+        ensures read { IfSome result (λ given. IfSome given (λ n. HoldsAt (λ word. IsNumber word n) (words_of self.old.0.now) 0)) }
+        ensures none { IfSome result (λ given. IfNone given (HoldsAt (λ word. word ≡ 45 ∷ []) (words_of self.old.0.now) 0)) }
         ensures left { words_of self.new.0.now ≡ drop 1 (words_of self.old.0.now) }
     {
-        match self.next()? {
-            b"-" => Some(None),
-            word => Some(Some(up_to(word, most)?)),
+        let word = self.next()?;
+        if word == b"-".as_slice() {
+            return Some(None);
         }
+        Some(Some(up_to(word, most)?))
     }
 
     // Something where no word is left.
@@ -81,33 +85,30 @@ impl<'a> Words<'a> {
 
 // A word that is a number up to `most`.
 fn up_to(word: &[u8], most: u64) -> Option<u64>
-    ensures { IfSome result (λ n. n ≤ most) }
+    ensures { IfSome result (λ n. (n ≤ most) × IsNumber word.now n) }
 {
     value(word).filter(|n| *n <= most)
 }
 
 // A number in decimal digits, or in hexadecimal ones after `0x`.
-fn value(word: &[u8]) -> Option<u64> {
+fn value(word: &[u8]) -> Option<u64>
+    ensures { IfSome result (IsNumber word.now) }
+{
     match word.strip_prefix(b"0x") {
         Some(digits) => number(digits, 16),
         None => number(word, 10),
     }
 }
 
-// A number of one digit or more in a base, where it fits 64 bits.
+// A number of one digit or more in a base, where it fits 64 bits; no sign stands before it.
 fn number(digits: &[u8], base: u32) -> Option<u64>
     requires low { 2 ≤ base }
     requires high { base ≤ 36 }
+    ensures { IfSome result (IsInDigits base digits.now) }
 {
-    if digits.is_empty() {
+    if digits.first() == Some(&b'+') {
         return None;
     }
-    let mut n = 0u64;
-    for b in digits {
-        let digit = char::from(*b).to_digit(base)?;
-        n = n
-            .checked_mul(u64::from(base))?
-            .checked_add(u64::from(digit))?;
-    }
-    Some(n)
+    let text = str::from_utf8(digits).ok()?;
+    u64::from_str_radix(text, base).ok()
 }

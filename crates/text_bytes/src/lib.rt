@@ -1,4 +1,5 @@
 // Bytes and numbers into a buffer: each function writes from a place on, as much as there is room for, and answers the place past it.
+// A buffer and a place, and no struct of both: the run keeps the place from line to line and main the buffer, so that the struct would be made and taken apart at each line.
 #![tactic(auto)]
 
 ghost use Rattle.std.specs.Prelude.{◌≡◌, ◌++◌, ◌-◌};
