@@ -51,11 +51,9 @@ pub fn walk_on(
         if r == 258 {
             return s;
         }
-        s = Stand {
-            at: k + 1,
-            best: offer(s.best, p.m, r, e.free, t),
-            looks: s.looks + 1,
-        };
+        s.at = k + 1;
+        s.best = offer(s.best, p.m, r, e.free, t);
+        s.looks += 1;
     }
     s
 }

@@ -29,7 +29,7 @@ loop-k-preserved c =
       here = refl;
       walked = record {
         same = λ h j ls bs tries.
-            rw (walk-passed _ _ _ j _ _ _ _ _ _ (st _ ls bs _ tries) _ _ _ t p d (v h) c.if-r-eq258.false, ← c.offer.ensures) at (l.same h j ls bs tries);
+            rw (walk-passed _ _ _ j _ _ _ _ _ _ (st _ ls bs _ tries) _ _ _ t p d (v h) c.if-r-eq258.false, ← c.offer-s.ensures) at (l.same h j ls bs tries);
         low = omega (arith, l.low);
         high = omega (arith, l.high, t);
         most = omega (arith, l.most, l.low);
