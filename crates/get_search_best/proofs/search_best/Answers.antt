@@ -23,23 +23,12 @@ loop-s-init c =
       next = v.1 _;
     }
 
-pub overflow_add-seen : goal.overflow_add-seen
-overflow_add-seen c =
-    let l = c.loop-s.invariant in
-    omega (arith, l.low, l.seen_most, c.loop-s-test.true, c.requires)
-
-pub access-a-requires : goal.access-a-requires
-access-a-requires c =
-    let l = c.loop-s.invariant in
-    let p = c.requires in
-    (p.0, (omega (arith, c.walk_tree-t.ensures.1, p.1.1.0), omega (arith, l.low, l.asked-most, c.loop-s-test.true, p.1.1.1)))
-
 pub returns-then-ends : goal.returns-then-ends
 unfolding search_best stopped
 returns-then-ends c =
     let l = c.loop-s.invariant in
     let t = c.loop-s-test.true in
-    let v = c.access-a.ensures in
+    let v = c.access-r.ensures in
     let e = sym c.ends.ensures ∙ c.if-ends.true in (
       rw (
         ← l.walked,
@@ -49,20 +38,11 @@ returns-then-ends c =
       omega (arith, v.1, l.low, l.high, l.seen_most, l.asked-most),
     )
 
-pub overflow_add-s : goal.overflow_add-s
-overflow_add-s c = omega (arith, c.loop-s-test.true, c.requires)
-
-pub walk_on-s-requires-in-loop-s : goal.walk_on-s-requires-in-loop-s
-walk_on-s-requires-in-loop-s c =
-    let l = c.loop-s.invariant in
-    let p = c.requires in
-    (p.0.order, (p.0.class, (p.1.0, (p.1.1.0, (p.1.1.1.0, (p.1.1.1.1.0, omega (arith, l.low, l.seen_most, c.loop-s-test.true, c.access-a.ensures.1, p.1.1.1)))))))
-
 pub loop-s-preserved : goal.loop-s-preserved
 loop-s-preserved c =
     let l = c.loop-s.invariant in
     let t = c.loop-s-test.true in
-    let v = c.access-a.ensures in
+    let v = c.access-r.ensures in
     let u = c.walk_on-s-in-loop-s.ensures in
     let e = sym c.ends.ensures ∙ c.if-ends.false in
     record {
@@ -70,20 +50,14 @@ loop-s-preserved c =
       high = omega (arith, l.low, l.high, u.0.high, t);
       seen_most = omega (arith, l.low, l.seen_most, v.1, u.0.low, u.0.most);
       asked-most = omega (arith, l.low, l.asked-most, v.1, u.0.low);
-      len_t = omega (arith, l.len_t, c.access-a.auto);
-      len-l = omega (arith, l.len-l, c.access-a.auto);
-      len-b = omega (arith, l.len-b, c.access-a.auto);
+      len_t = omega (arith, l.len_t, c.access-r.auto);
+      len-l = omega (arith, l.len-l, c.access-r.auto);
+      len-b = omega (arith, l.len-b, c.access-r.auto);
       walked =
           sym (u.0.same _ _ _ _ _)
           ∙ (sym (walk-goes _ _ _ _ _ _ _ _ _ _ _ _ _ _ _ _ _ _ t c.walk_tree-t.ensures.0 (l.next t) v.0 e) ∙ l.walked);
       next = u.1 _;
     }
-
-pub try_list-requires : goal.try_list-requires
-try_list-requires c =
-    let l = c.loop-s.invariant in
-    let p = c.requires in
-    (p.0, (p.1.0, omega (arith, l.low, l.high, l.asked-most, p.1.1.1)))
 
 pub returns : goal.returns
 unfolding search_best on_sight

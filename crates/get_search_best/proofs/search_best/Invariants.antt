@@ -15,14 +15,14 @@ invariant-loop-s l =
     record {
       low : l.p.first ≤ l.s.at;
       high : l.s.at ≤ l.p.first + (l.p.last - l.p.first);
-      seen_most : l.s.looks ≤ l.looks + (l.s.at - l.p.first);
-      asked-most : l.asked ≤ l.tries + (l.s.at - l.p.first);
+      seen_most : l.s.looks ≤ l.fn.counts.looks + (l.s.at - l.p.first);
+      asked-most : l.tries ≤ l.fn.counts.tries + (l.s.at - l.p.first);
       len_t : length l.trees ≡ length l.initial.trees;
       len-l : length l.locals ≡ length l.initial.locals;
       len-b : length l.bits ≡ length l.initial.bits;
-      walked : walk (config l.h l.table) l.q l.w l.j l.p.m l.p.n l.p.start l.s.at l.p.last (list_of l.p.m l.s.best) (st l.trees l.locals l.bits l.s.looks l.asked)
-          ≡ walk (config l.h l.table) l.q l.w l.j l.p.m l.p.n l.p.start l.p.first l.p.last [] (st l.initial.trees l.initial.locals l.initial.bits l.looks l.tries);
-      next : l.s.at < l.p.last → rate (config l.h l.table) l.q l.w (entry_at l.trees (walk_tree l.p.n l.p.start l.s.at)) ≡ 258;
+      walked : walk (config l.a.h l.table) l.a.q l.w l.j l.p.m l.p.n l.p.start l.s.at l.p.last (list_of l.p.m l.s.best) (st l.trees l.locals l.bits l.s.looks l.tries)
+          ≡ walk (config l.a.h l.table) l.a.q l.w l.j l.p.m l.p.n l.p.start l.p.first l.p.last [] (st l.initial.trees l.initial.locals l.initial.bits l.fn.counts.looks l.fn.counts.tries);
+      next : l.s.at < l.p.last → rate (config l.a.h l.table) l.a.q l.w (entry_at l.trees (walk_tree l.p.n l.p.start l.s.at)) ≡ 258;
     }
 
 abbrev pub decreases-loop-s : goal.decreases-loop-s
