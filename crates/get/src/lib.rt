@@ -5,6 +5,7 @@ ghost use Rattle.rules_calls.specs.Promises.{words, GetPromise};
 
 use rules::{Header, Request};
 use rules_calls::{Refusal, Reply};
+use test_fits::Ask;
 
 // A get, of the named frame or of any.
 pub fn get(
@@ -25,7 +26,5 @@ pub fn get(
     if let Err(x) = test_arguments::check(h, q, test_arguments::frame_of(name)) {
         return get_answer::refused(x);
     }
-    get_answer::reply(get_routes::routes(
-        h, table, trees, locals, bits, q, name,
-    ))
+    get_answer::reply(get_routes::routes(Ask { h, q }, table, trees, locals, bits, name))
 }

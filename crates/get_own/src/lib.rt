@@ -58,11 +58,8 @@ fn top_up(
         ≡ top_up syncs (config a.h table.now) a.q name j row free (st trees.old locals.old bits.old counts.looks counts.tries))
         × ((result.counts.looks ≤ counts.looks) × (result.counts.tries ≤ counts.tries + 1)) }
 {
-    if syncs == 0 {
-        return get_ends::missed_at(row / 32, counts);
-    }
     let n = word_sizes::size(a.q.order);
-    if get_own_topped::topped(a.h, table, trees, locals, j, row, free, n) {
+    if 0 < syncs && get_own_topped::topped(a.h, table, trees, locals, j, row, free, n) {
         return get_local(a, table, trees, locals, bits, name, j, syncs - 1, counts);
     }
     get_ends::missed_at(row / 32, counts)

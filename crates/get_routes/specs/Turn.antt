@@ -1,7 +1,8 @@
 -- Whether a get with no name reserves or steals, as a test. Assumes nothing.
 use Rattle.std.specs.Prelude.{◌≡◌, refl, Bool, true, false, ℕ, ◌*◌, ◌/◌, eqb, ltb, Option, Some, None}
 use Rattle.std.proofs.Common.{arith}
-use Rattle.rules.specs.Base.{pick, ifte}
+use Rattle.std.specs.Option.{is_some}
+use Rattle.rules.specs.Base.{pick, both, ifte}
 use Rattle.rules.specs.Words.{Config, trees_of, locals_of, slot}
 use Rattle.rules.specs.declared.Request.{Request}
 use Rattle.rules_calls.specs.State.{State, index_of}
@@ -12,6 +13,12 @@ use Rattle.rules_calls.specs.Search.{search_and_steal}
 unfoldable pub reserving : Config → Request → Option ℕ → Bool
 reserving c q (Some i) = ltb (locals_of c.places q.class) (trees_of c)
 reserving c q None = false
+
+-- as the code asks it
+pub reserving-asked : (c : Config) (q : Request) (g : Option ℕ) → reserving c q g ≡ both (is_some g) (ltb (locals_of c.places q.class) (trees_of c))
+unfolding reserving
+reserving-asked c q (Some i) = refl
+reserving-asked c q None = refl
 
 -- with no index the start tree is 0
 none : (b : Bool) (x : ℕ) → 0 ≡ pick b 0 (x * 0)

@@ -22,10 +22,12 @@ returns-in-Err c =
     (c.check.ensures _)
     c.in-Err.is)
 
-pub routes-requires : goal.routes-requires
-routes-requires c =
-    checked-fits _ _ _ _ (standing-accepted _ _ _ _ (sym c.stands.ensures ∙ c.if-not-stands.false))
-    (done-checked _ _ (c.check.ensures _) c.in_default.is)
+pub invariant_of-routes : goal.invariant_of-routes
+invariant_of-routes c =
+    record {
+      fits = checked-fits _ _ _ _ (standing-accepted _ _ _ _ (sym c.stands.ensures ∙ c.if-not-stands.false))
+          (done-checked _ _ (c.check.ensures _) c.in_default.is);
+    }
 
 pub returns : goal.returns
 unfolding get

@@ -4,6 +4,8 @@ use Rattle.get_own.specs.TopUp.{take-parts, top_up-more, top_up-none}
 use Rattle.rules_calls.specs.FromLocals.{get_local}
 use Rattle.rules_calls.specs.State.{on_held, with_locals}
 use borrow.Author.Rules.{rules}
+use native.Mathlib.Omega.{arith}
+use Rattle.get_own.proofs.+get_local_top_up.Goals.{top_up-else-syncs-gt0-via-then-syncs-gt0+else-topped, top_up-else-syncs-gt0-via-else-syncs-gt0}
 use Rattle.get_own.proofs.+get_local_top_up.Goals as goal
 
 pub get_local-returns-in-Row : goal.get_local-returns-in-Row
@@ -42,17 +44,11 @@ get_local-returns-in-Absent t c = (
   (search rules, search rules),
 )
 
-pub top_up-returns-then-syncs-eq0 : goal.top_up-returns-then-syncs-eq0
-top_up-returns-then-syncs-eq0 t c = (
-  rw (top_up-none _ _ _ _ _ _ _ _ c.if-syncs-eq0.true) (c.missed_at.ensures.0 _ _ _),
-  (search rules, search rules),
-)
-
 pub top_up-returns-then-topped : goal.top_up-returns-then-topped
 unfolding on_topped
 top_up-returns-then-topped t c = (
   rw (
-    top_up-more _ _ _ _ _ _ _ _ c.if-syncs-eq0.false,
+    top_up-more c.args.syncs _ _ _ _ _ _ _ (λ e. omega (arith, e, c.if-syncs-gt0.true)),
     top-topped _ _ _ _ _ _ _,
     ← c.size-n.ensures.0,
     ← c.topped.ensures,
@@ -64,12 +60,21 @@ top_up-returns-then-topped t c = (
 pub top_up-returns : goal.top_up-returns
 unfolding on_topped
 top_up-returns t c = (
-  rw (
-    top_up-more _ _ _ _ _ _ _ _ c.if-syncs-eq0.false,
-    top-topped _ _ _ _ _ _ _,
-    ← c.size-n.ensures.0,
-    ← c.topped.ensures,
-    c.if-topped.false,
-  ) (c.missed_at-2.ensures.0 _ _ _),
-  (search rules, search rules),
+  elim c.else-syncs-gt0.branch [
+    top_up-else-syncs-gt0-via-then-syncs-gt0+else-topped w ↦ rw (
+      w.trees-is,
+      w.locals-is,
+      top_up-more c.args.syncs _ _ _ _ _ _ _ (λ e. omega (arith, e, w.if-syncs-gt0.true)),
+      top-topped _ _ _ _ _ _ _,
+      ← c.size-n.ensures.0,
+      ← w.topped.ensures,
+      w.if-topped.false,
+    ) (c.missed_at.ensures.0 _ _ _)
+    | top_up-else-syncs-gt0-via-else-syncs-gt0 w ↦ rw (
+      w.trees-is,
+      w.locals-is,
+      top_up-none c.args.syncs _ _ _ _ _ _ _ (omega (arith, w.if-syncs-gt0.false)),
+    ) (c.missed_at.ensures.0 _ _ _)
+  ],
+  rw c.missed_at.ensures.1 (omega arith),
 )

@@ -5,15 +5,9 @@ use mathlib.Core.Path.{sym, ◌∙◌}
 use native.Mathlib.Omega.{arith}
 use Rattle.get_routes.proofs.routes.Goals as goal
 
-pub get_at-requires : goal.get_at-requires
-get_at-requires c = (c.requires, omega arith)
-
 pub returns-in-Some : goal.returns-in-Some
 unfolding routes
 returns-in-Some c = rw c.in-Some.is c.get_at.ensures.0
-
-pub search_trees-r-requires : goal.search_trees-r-requires
-search_trees-r-requires c = (c.requires, c.requires.index)
 
 pub returns-then-ends : goal.returns-then-ends
 returns-then-ends c =
@@ -23,7 +17,7 @@ returns-then-ends c =
     (sym c.ends.ensures ∙ c.if-ends.true)
 
 pub last_routes-requires : goal.last_routes-requires
-last_routes-requires c = (c.requires, omega (arith, c.search_trees-r.ensures.1))
+last_routes-requires c = omega (arith, c.search_trees-r.ensures.1)
 
 pub returns : goal.returns
 returns c =

@@ -6,13 +6,10 @@ use native.Mathlib.Omega.{arith}
 use Rattle.get_routes.proofs.search_trees.Goals as goal
 
 pub start_tree-start-requires : goal.start_tree-start-requires
-start_tree-start-requires c = (c.requires.0, rw c.index_of-i.ensures c.requires.1)
-
-pub is_reserving-requires : goal.is_reserving-requires
-is_reserving-requires c = c.requires.0
+start_tree-start-requires c = rw c.index_of-i.ensures c.args.a.fits.index
 
 pub search_and_steal-requires : goal.search_and_steal-requires
-search_and_steal-requires c = (c.requires.0, (c.start_tree-start.ensures.1, omega arith))
+search_and_steal-requires c = (c.start_tree-start.ensures.1, omega arith)
 
 pub returns-then-not-is_reserving : goal.returns-then-not-is_reserving
 returns-then-not-is_reserving c = (
@@ -26,10 +23,7 @@ returns-then-not-is_reserving c = (
 )
 
 pub slot-j-requires : goal.slot-j-requires
-slot-j-requires c = (omega (arith, c.requires.0.class), rw c.index_of-i.ensures c.requires.1)
-
-pub get_local-r-requires : goal.get_local-r-requires
-get_local-r-requires c = (c.requires.0, omega arith)
+slot-j-requires c = (omega (arith, c.args.a.fits.class), rw c.index_of-i.ensures c.args.a.fits.index)
 
 pub returns-then-ends : goal.returns-then-ends
 returns-then-ends c = (
@@ -39,15 +33,15 @@ returns-then-ends c = (
       (c.is_reserving.ensures _)
       c.if-not-is_reserving.false
       c.slot-j.ensures
-      c.get_local-r.ensures.0
+      c.get_local-own.ensures.0
       (sym c.ends.ensures ∙ c.if-ends.true),
-  omega (arith, c.get_local-r.ensures.1),
+  omega (arith, c.get_local-own.ensures.1),
 )
 
 pub search_and_reserve-requires : goal.search_and_reserve-requires
-search_and_reserve-requires c = let g = c.get_local-r.ensures in
-    let s = start_small _ _ _ _ _ c.requires.0.order _ _ _ _ _ g.0 c.start_tree-start.ensures.1 in
-    (c.requires.0, (rw c.start_after-from.ensures s, omega (arith, g.1)))
+search_and_reserve-requires c = let g = c.get_local-own.ensures in
+    let s = start_small _ _ _ _ _ c.args.a.fits.order _ _ _ _ _ g.0 c.start_tree-start.ensures.1 in
+    (rw c.start_after-from.ensures s, omega (arith, g.1))
 
 pub returns : goal.returns
 returns c = (
@@ -57,9 +51,9 @@ returns c = (
       (c.is_reserving.ensures _)
       c.if-not-is_reserving.false
       c.slot-j.ensures
-      c.get_local-r.ensures.0
+      c.get_local-own.ensures.0
       (sym c.ends.ensures ∙ c.if-ends.false)
       c.start_after-from.ensures
       c.search_and_reserve.ensures.0,
-  omega (arith, c.search_and_reserve.ensures.1, c.get_local-r.ensures.1),
+  omega (arith, c.search_and_reserve.ensures.1, c.get_local-own.ensures.1),
 )

@@ -10,7 +10,7 @@ unfolding start_tree
 returns-then-m-eq0 c = (λ pairs. rw (← c.locals_of-m.ensures.0, eq-eqb _ _ c.if-m-eq0.true), search rules)
 
 pub portion-requires : goal.portion-requires
-portion-requires c = (omega (arith, c.if-m-eq0.false), (c.tree_count.ensures.1.1, c.requires.1))
+portion-requires c = (omega (arith, c.if-m-eq0.false), (c.tree_count.ensures.1.1, c.requires))
 
 pub returns : goal.returns
 unfolding start_tree
