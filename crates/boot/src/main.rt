@@ -16,12 +16,12 @@ use rules::Header;
 use rules_calls::Refusal;
 
 // The figures of the store.
-fn figures<'a>(
+fn figures(
     h: Header,
-    table: &'a [u32; 64],
-    trees: &'a [u32],
-    locals: &'a [u64],
-    bits: &'a [u64],
+    table: &[u32; 64],
+    trees: &[u32],
+    locals: &[u64],
+    bits: &[u64],
 ) {
     let report = stats_lent::report(h, table, trees, locals, bits, 8);
     boot_says::figures(h.frames, report);

@@ -82,13 +82,13 @@ pub fn llfree_drain(
 }
 
 // Statistics: one call, and its answer in numbers.
-pub fn llfree_statistics<'a, 'b>(
+pub fn llfree_statistics(
     h: Header,
-    table: &'a [u32; 64],
-    trees: &'a [u32],
-    locals: &'a [u64],
-    bits: &'a [u64],
-    rows: &'b mut [Tally],
+    table: &[u32; 64],
+    trees: &[u32],
+    locals: &[u64],
+    bits: &[u64],
+    rows: &mut [Tally],
 ) -> Summary
     ensures { StatisticsAnswer h table.now (words trees.now locals.now bits.now)
         rows.old result rows.new }

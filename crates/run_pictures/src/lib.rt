@@ -9,12 +9,12 @@ use text_prints::Program;
 mod look;
 
 // The answer to a line that looks, at these words. The picture is written at once, behind the answers before it.
-fn show_these<'a>(
+fn show_these(
     h: Header,
-    table: &'a [u32; 64],
-    trees: &'a [u32],
-    locals: &'a [u64],
-    bits: &'a [u64],
+    table: &[u32; 64],
+    trees: &[u32],
+    locals: &[u64],
+    bits: &[u64],
     s: Show,
     out: &mut [u8],
     at: usize,
@@ -31,12 +31,12 @@ fn show_these<'a>(
 }
 
 // The answer to a line that looks, at the words lent.
-pub fn show<'a>(
+pub fn show(
     setup: Setup,
-    table: &'a [u32; 64],
-    trees: &'a [u32],
-    locals: &'a [u64],
-    bits: &'a [u64],
+    table: &[u32; 64],
+    trees: &[u32],
+    locals: &[u64],
+    bits: &[u64],
     s: Show,
     out: &mut [u8],
     at: usize,

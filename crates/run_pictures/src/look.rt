@@ -114,12 +114,12 @@ fn total_line(number: usize, t: Totals, frames: usize, trees: usize) {
 }
 
 // The totals of the words.
-fn totals<'a>(
+fn totals(
     h: Header,
-    table: &'a [u32; 64],
-    trees: &'a [u32],
-    locals: &'a [u64],
-    bits: &'a [u64],
+    table: &[u32; 64],
+    trees: &[u32],
+    locals: &[u64],
+    bits: &[u64],
 ) {
     let none = Totals { free: 0, trees: 0 };
     let (number, t) = match stats_lent::report(h, table, trees, locals, bits, 8) {
@@ -148,12 +148,12 @@ fn holders(h: Header, locals: &[u64]) {
 }
 
 // The whole picture.
-pub fn look<'a>(
+pub fn look(
     h: Header,
-    table: &'a [u32; 64],
-    trees: &'a [u32],
-    locals: &'a [u64],
-    bits: &'a [u64],
+    table: &[u32; 64],
+    trees: &[u32],
+    locals: &[u64],
+    bits: &[u64],
 ) {
     heading(h);
     map(trees);

@@ -7,13 +7,13 @@ use rules::Header;
 use rules_calls::{Refusal, Tally, Totals};
 
 // Statistics: one call, one test and one copy.
-pub fn statistics<'a, 'b>(
+pub fn statistics(
     h: Header,
-    table: &'a [u32; 64],
-    trees: &'a [u32],
-    locals: &'a [u64],
-    bits: &'a [u64],
-    rows: &'b mut [Tally],
+    table: &[u32; 64],
+    trees: &[u32],
+    locals: &[u64],
+    bits: &[u64],
+    rows: &mut [Tally],
 ) -> Result<Totals, Refusal>
     ensures { StatisticsPromise h table.now (words trees.now locals.now bits.now)
         rows.old result rows.new }

@@ -10,12 +10,12 @@ use rules_calls::Refusal;
 use stats_told::Stats;
 
 // Statistics, lent so many rows, at most sixteen.
-pub fn report<'a>(
+pub fn report(
     h: Header,
-    table: &'a [u32; 64],
-    trees: &'a [u32],
-    locals: &'a [u64],
-    bits: &'a [u64],
+    table: &[u32; 64],
+    trees: &[u32],
+    locals: &[u64],
+    bits: &[u64],
     n: usize,
 ) -> Result<Stats, Refusal>
     ensures { result ≡ stats_of (config h table.now) trees.now locals.now bits.now n }

@@ -16,12 +16,12 @@ pub struct Stats {
 }
 
 // Statistics by value, where n tally rows are lent: Broken, then Rows where they are not eight.
-pub fn tell<'a>(
+pub fn tell(
     h: Header,
-    table: &'a [u32; 64],
-    trees: &'a [u32],
-    locals: &'a [u64],
-    bits: &'a [u64],
+    table: &[u32; 64],
+    trees: &[u32],
+    locals: &[u64],
+    bits: &[u64],
     n: usize,
 ) -> Result<Stats, Refusal>
     ensures { result ≡ stats_of (config h table.now) trees.now locals.now bits.now n }
