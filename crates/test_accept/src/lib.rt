@@ -1,5 +1,5 @@
 // The acceptance test of header and policy table, made at each exported call: the table row by row.
-#![tactic(auto)]
+#![tactic(auto, using(std::proofs::lemmas::Bool::Decides::nat_tests, law_rules::specs::All::all_loop), unfolding(rules::specs::Policy::accepted, rules::specs::Policy::frames_accepted, rules::specs::Policy::places_accepted, rules::specs::Policy::default_accepted))]
 
 ghost use Rattle.std.specs.Prelude.{◌≡◌};
 ghost use Rattle.rules.specs.Base.{all_below};
@@ -13,12 +13,10 @@ use rules::Header;
 fn places_fit(h: Header) -> bool
     ensures { result ≡ all_below 8 (place_fits h.places) }
 {
-    let mut k: usize = 0;
-    while k < 8 {
-        if 33 < word_header::wide(h.places[k]) {
+    for place in h.places {
+        if 33 < place {
             return false;
         }
-        k += 1;
     }
     true
 }
@@ -27,21 +25,10 @@ fn places_fit(h: Header) -> bool
 pub fn accepts(h: Header, table: &[u32; 64]) -> bool
     ensures { result ≡ accepted (config h table.now) }
 {
-    if h.frames < 1 {
-        return false;
-    }
-    if 2097152 < h.frames {
-        return false;
-    }
-    let places = h.places;
-    if places_fit(h) {
-        if h.default < 8 {
-            if word_header::configured_in(&places, h.default) {
-                return test_accept_rows::rows_accepted(h, &places, table);
-            }
-            return false;
-        }
-        return false;
-    }
-    false
+    1 <= h.frames
+        && h.frames <= 2097152
+        && places_fit(h)
+        && h.default < 8
+        && word_header::configured_in(&h.places, h.default)
+        && test_accept_rows::rows_accepted(h, &h.places, table)
 }

@@ -1,10 +1,12 @@
 // What locals hold, over all of them: each tree once, and how many of entries and locals are reserved and present.
-#![tactic(auto)]
+#![tactic(auto, using(law_rules::specs::All::all_loop))]
 
 ghost use Rattle.std.specs.Prelude.{◌≡◌, ◌≤◌, length};
-ghost use Rattle.rules.specs.Base.{bit_of, all_below};
+ghost use Rattle.rules.specs.Base.{all_below};
 ghost use Rattle.rules_calls.specs.Standing.{apart_before, reserved_count, present_count};
 ghost use Rattle.test_apart.specs.Apart.{OnTrees};
+
+use word_fields::{local_of, tree_of};
 
 // Distinct locals hold distinct trees: the tree of each present local is marked, and was not marked before.
 pub fn apart(locals: &[u64]) -> bool
@@ -12,9 +14,8 @@ pub fn apart(locals: &[u64]) -> bool
     ensures { result ≡ all_below (length locals.now) (apart_before 11 locals.now) }
 {
     let mut marks = [0u64; 16];
-    let mut j: usize = 0;
-    while j < locals.len() {
-        let l = local_words::load(locals, j);
+    for word in locals {
+        let l = local_of(*word);
         if l.present {
             let tree = l.row / 32;
             if !lower_blocks::is_free(&marks, 0, tree) {
@@ -22,42 +23,20 @@ pub fn apart(locals: &[u64]) -> bool
             }
             lower_marks::hold(&mut marks, 0, tree);
         }
-        j += 1;
     }
     true
-}
-
-// 1 for true.
-fn bit_of(b: bool) -> usize
-    ensures { (result ≡ bit_of b) × (result ≤ 1) }
-{
-    if b { 1 } else { 0 }
 }
 
 // The number of reserved entries.
 pub fn reserved_count(trees: &[u32]) -> usize
     ensures { result ≡ reserved_count trees.now (length trees.now) }
 {
-    let mut reserved: usize = 0;
-    let mut t: usize = 0;
-    while t < trees.len() {
-        let e = tree_words::load(trees, t);
-        reserved += bit_of(e.reserved);
-        t += 1;
-    }
-    reserved
+    trees.iter().filter(|w| tree_of(**w).reserved).count()
 }
 
 // The number of present locals.
 pub fn present_count(locals: &[u64]) -> usize
     ensures { result ≡ present_count locals.now (length locals.now) }
 {
-    let mut present: usize = 0;
-    let mut j: usize = 0;
-    while j < locals.len() {
-        let l = local_words::load(locals, j);
-        present += bit_of(l.present);
-        j += 1;
-    }
-    present
+    locals.iter().filter(|w| local_of(**w).present).count()
 }

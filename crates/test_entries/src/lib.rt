@@ -1,5 +1,5 @@
 // The standing rules of the entries: one pass over them and the bitmap.
-#![tactic(auto)]
+#![tactic(auto, using(std::proofs::lemmas::Bool::Decides::nat_tests, law_rules::specs::All::all_loop), unfolding(rules_calls::specs::Standing::entry_stands))]
 
 ghost use Rattle.std.specs.Prelude.{◌≡◌, List, ℕ, ◌+◌, ◌*◌, ◌≤◌, length};
 ghost use Rattle.rules.specs.Base.{all_below};
@@ -16,16 +16,9 @@ fn entry_stands(places: &[u8; 8], trees: &[u32], bits: &[u64], t: usize) -> bool
         → result ≡ entry_stands (config h pairs) trees.now bits.now t }
 {
     let e = tree_words::load(trees, t);
-    if e.free <= 2048 {
-        if word_header::configured_in(places, e.class) {
-            if e.reserved {
-                return true;
-            }
-            return e.free == lower_words::clear_in(bits, t);
-        }
-        return false;
-    }
-    false
+    e.free <= 2048
+        && word_header::configured_in(places, e.class)
+        && (e.reserved || e.free == lower_words::clear_in(bits, t))
 }
 
 // Each entry stands.
@@ -33,13 +26,10 @@ pub fn entries_stand(h: Header, trees: &[u32], bits: &[u64]) -> bool
     requires { length bits.now ≡ 32 * length trees.now }
     ensures { (pairs : List ℕ) → result ≡ all_below (length trees.now) (entry_stands (config h pairs) trees.now bits.now) }
 {
-    let places = h.places;
-    let mut t: usize = 0;
-    while t < trees.len() {
-        if !entry_stands(&places, trees, bits, t) {
+    for t in 0..trees.len() {
+        if !entry_stands(&h.places, trees, bits, t) {
             return false;
         }
-        t += 1;
     }
     true
 }

@@ -1,5 +1,5 @@
 // The standing rules of a present local, the holder of a tree.
-#![tactic(auto)]
+#![tactic(auto, using(std::proofs::lemmas::Bool::Decides::nat_tests), unfolding(rules_calls::specs::Standing::holder_stands, rules::specs::Policy::good))]
 
 ghost use Rattle.std.specs.Prelude.{◌≡◌, ◌^◌, ◌<◌};
 ghost use Rattle.rules.specs.Words.{config};
@@ -21,15 +21,11 @@ pub fn holder_stands(
     ensures { result ≡ holder_stands (config h table.now) trees.now bits.now class l }
 {
     let t = l.row / 32;
-    if t < word_header::tree_count(h.frames) {
-        let e = tree_words::load(trees, t);
-        if e.reserved {
-            if 2 <= word_policy::kind_at(table, class, e.class) {
-                return e.free + l.free == lower_words::clear_in(bits, t);
-            }
-            return false;
-        }
+    if word_header::tree_count(h.frames) <= t {
         return false;
     }
-    false
+    let e = tree_words::load(trees, t);
+    e.reserved
+        && 2 <= word_policy::kind_at(table, class, e.class)
+        && e.free + l.free == lower_words::clear_in(bits, t)
 }

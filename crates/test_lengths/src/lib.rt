@@ -1,5 +1,5 @@
 // The lengths of the lent buffers.
-#![tactic(auto)]
+#![tactic(auto, using(std::proofs::lemmas::Bool::Decides::nat_tests), unfolding(rules_calls::specs::Standing::lengths_exact))]
 
 ghost use Rattle.std.specs.Prelude.{◌≡◌, List, ℕ, ◌^◌, ◌≤◌};
 ghost use Rattle.rules.specs.Words.{config};
@@ -13,11 +13,5 @@ pub fn lengths_exact(h: Header, trees: &[u32], locals: &[u64], bits: &[u64]) -> 
     ensures { (pairs : List ℕ) → result ≡ lengths_exact (config h pairs) trees.now locals.now bits.now }
 {
     let n = word_header::tree_count(h.frames);
-    if trees.len() == n {
-        if locals.len() == word_header::local_count(h) {
-            return bits.len() == 32 * n;
-        }
-        return false;
-    }
-    false
+    trees.len() == n && locals.len() == word_header::local_count(h) && bits.len() == 32 * n
 }

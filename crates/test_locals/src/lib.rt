@@ -1,5 +1,5 @@
 // The standing rules of the locals, by class, then index.
-#![tactic(auto)]
+#![tactic(auto, using(std::proofs::lemmas::Bool::Decides::nat_tests, law_rules::specs::All::all_loop), unfolding(rules_calls::specs::Standing::local_stands))]
 
 ghost use Rattle.std.specs.Prelude.{◌≡◌, ◌^◌, ◌<◌};
 ghost use Rattle.rules.specs.Base.{all_below, sum};
@@ -24,9 +24,10 @@ fn local_stands(
 {
     let l = local_words::load(locals, j);
     if l.present {
-        return test_holder::holder_stands(h, table, trees, bits, class, l);
+        test_holder::holder_stands(h, table, trees, bits, class, l)
+    } else {
+        local_words::word(locals, j) == 0
     }
-    local_words::word(locals, j) == 0
 }
 
 // The locals of a class, from its first slot on.
@@ -44,12 +45,10 @@ fn class_stands(
     requires len_value { (len ≡ locals_of h.places class) × (len < 256) }
     ensures { result ≡ class_stands (config h table.now) trees.now locals.now bits.now class }
 {
-    let mut index: usize = 0;
-    while index < len {
+    for index in 0..len {
         if !local_stands(h, table, trees, locals, bits, class, first + index) {
             return false;
         }
-        index += 1;
     }
     true
 }
@@ -65,16 +64,13 @@ pub fn locals_stand(
     requires { Exact (config h table.now) trees.now bits.now }
     ensures { result ≡ all_below 8 (class_stands (config h table.now) trees.now locals.now bits.now) }
 {
-    let places = h.places;
     let mut first: usize = 0;
-    let mut class: usize = 0;
-    while class < 8 {
-        let len = word_header::locals_in(&places, class);
+    for class in 0..8 {
+        let len = word_header::locals_in(&h.places, class);
         if !class_stands(h, table, trees, locals, bits, class, first, len) {
             return false;
         }
         first += len;
-        class += 1;
     }
     true
 }

@@ -1,12 +1,15 @@
--- `test_state::stands` meets its contract. Assumes nothing.
-use mathlib.Core.List.{[]}
-use mathlib.Core.Path.{sym, ◌∙◌}
+-- `test_state::stands`: what each test gives to those after it, and that they are the standing rules. Assumes nothing.
+use mathlib.Core.Path.{◌≡◌, sym, ◌∙◌}
+use mathlib.Core.Bool.{true}
 use native.Mathlib.Omega.{arith}
-use Rattle.law_calls.specs.Tested.{lengths-say}
+use Rattle.std.proofs.lemmas.Bool.Decides.{nat_tests}
+use Rattle.rules.specs.Words.{config}
+use Rattle.rules.specs.Base.{all_below}
+use Rattle.rules.specs.Policy.{accepted}
+use Rattle.rules_calls.specs.Standing.{lengths_exact, class_stands, past_held}
 use Rattle.test_lengths.specs.Exact.{frames-most, exact-says}
 use Rattle.test_state.specs.Inside.{inside-few}
-use Rattle.rules_calls.specs.Standing.{standing, past_held}
-use borrow.Author.Tests.{eq-eqb, ne_eqb}
+use Rattle.test_state.proofs.Lengths.{standing-exact, standing-inexact}
 use Rattle.test_state.proofs.stands.Goals as goal
 
 pub lengths_exact-requires : goal.lengths_exact-requires
@@ -14,125 +17,30 @@ lengths_exact-requires c = frames-most _ (sym c.accepts.ensures ∙ c.if-accepts
 
 pub entries_stand-requires : goal.entries_stand-requires
 entries_stand-requires c =
-    let x = exact-says _ _ _ _ (sym c.accepts.ensures ∙ c.if-accepts.true) (sym (c.lengths_exact.ensures _) ∙ c.if-lengths_exact.true) in
-    omega (arith, x.entries, x.words)
+    let x = config c.args.h c.args.table.now in
+    let a : accepted x ≡ true = grind arith in
+    let l : lengths_exact x c.args.trees.now c.args.locals.now c.args.bits.now ≡ true = grind arith in
+    let e = exact-says _ _ _ _ a l in
+    omega (arith, e.entries, e.words)
 
 pub locals_stand-requires : goal.locals_stand-requires
 locals_stand-requires c =
-    exact-says _ _ _ _ (sym c.accepts.ensures ∙ c.if-accepts.true) (sym (c.lengths_exact.ensures _) ∙ c.if-lengths_exact.true)
+    let x = config c.args.h c.args.table.now in
+    let a : accepted x ≡ true = grind arith in
+    let l : lengths_exact x c.args.trees.now c.args.locals.now c.args.bits.now ≡ true = grind arith in
+    exact-says _ _ _ _ a l
 
 pub apart-requires : goal.apart-requires
 apart-requires c =
-    inside-few _ _ _ _ _ (sym c.accepts.ensures ∙ c.if-accepts.true) (sym (c.lengths_exact.ensures _) ∙ c.if-lengths_exact.true) (sym c.locals_stand.ensures ∙ c.if-locals_stand.true)
+    let x = config c.args.h c.args.table.now in
+    let a : accepted x ≡ true = grind arith in
+    let l : lengths_exact x c.args.trees.now c.args.locals.now c.args.bits.now ≡ true = grind arith in
+    let s : all_below 8 (class_stands x c.args.trees.now c.args.locals.now c.args.bits.now) ≡ true = grind arith in
+    inside-few _ _ _ _ _ a l s
 
 pub returns-then-reserved_count-present_count : goal.returns-then-reserved_count-present_count
-unfolding standing past_held
-returns-then-reserved_count-present_count c =
-    let x = exact-says _ _ _ _ (sym c.accepts.ensures ∙ c.if-accepts.true) (sym (c.lengths_exact.ensures _) ∙ c.if-lengths_exact.true) in
-    rw (
-      ← c.accepts.ensures,
-      c.if-accepts.true,
-      ← c.lengths_exact.ensures _,
-      c.if-lengths_exact.true,
-      ← x.entries,
-      ← c.entries_stand.ensures _,
-      c.if-entries_stand.true,
-      ← c.locals_stand.ensures,
-      c.if-locals_stand.true,
-      ← (lengths-say _ _ _ _ (sym (c.lengths_exact.ensures []) ∙ c.if-lengths_exact.true)).local_words,
-      ← c.apart.ensures,
-      c.if-apart.true,
-      ← c.reserved_count.ensures,
-      ← c.present_count.ensures,
-      eq-eqb _ _ c.if-reserved_count-present_count.true,
-      ← c.past_held.ensures,
-    )
+unfolding past_held
+returns-then-reserved_count-present_count c = grind (arith, nat_tests, standing-exact, standing-inexact)
 
-pub returns-then-apart : goal.returns-then-apart
-unfolding standing past_held
-returns-then-apart c =
-    let x = exact-says _ _ _ _ (sym c.accepts.ensures ∙ c.if-accepts.true) (sym (c.lengths_exact.ensures _) ∙ c.if-lengths_exact.true) in
-    rw (
-      ← c.accepts.ensures,
-      c.if-accepts.true,
-      ← c.lengths_exact.ensures _,
-      c.if-lengths_exact.true,
-      ← x.entries,
-      ← c.entries_stand.ensures _,
-      c.if-entries_stand.true,
-      ← c.locals_stand.ensures,
-      c.if-locals_stand.true,
-      ← (lengths-say _ _ _ _ (sym (c.lengths_exact.ensures []) ∙ c.if-lengths_exact.true)).local_words,
-      ← c.apart.ensures,
-      c.if-apart.true,
-      ← c.reserved_count.ensures,
-      ← c.present_count.ensures,
-      ne_eqb _ _ c.if-reserved_count-present_count.false,
-    )
-
-pub returns-then-locals_stand : goal.returns-then-locals_stand
-unfolding standing past_held
-returns-then-locals_stand c =
-    let x = exact-says _ _ _ _ (sym c.accepts.ensures ∙ c.if-accepts.true) (sym (c.lengths_exact.ensures _) ∙ c.if-lengths_exact.true) in
-    rw (
-      ← c.accepts.ensures,
-      c.if-accepts.true,
-      ← c.lengths_exact.ensures _,
-      c.if-lengths_exact.true,
-      ← x.entries,
-      ← c.entries_stand.ensures _,
-      c.if-entries_stand.true,
-      ← c.locals_stand.ensures,
-      c.if-locals_stand.true,
-      ← (lengths-say _ _ _ _ (sym (c.lengths_exact.ensures []) ∙ c.if-lengths_exact.true)).local_words,
-      ← c.apart.ensures,
-      c.if-apart.false,
-    )
-
-pub returns-then-entries_stand : goal.returns-then-entries_stand
-unfolding standing past_held
-returns-then-entries_stand c =
-    let x = exact-says _ _ _ _ (sym c.accepts.ensures ∙ c.if-accepts.true) (sym (c.lengths_exact.ensures _) ∙ c.if-lengths_exact.true) in
-    rw (
-      ← c.accepts.ensures,
-      c.if-accepts.true,
-      ← c.lengths_exact.ensures _,
-      c.if-lengths_exact.true,
-      ← x.entries,
-      ← c.entries_stand.ensures _,
-      c.if-entries_stand.true,
-      ← c.locals_stand.ensures,
-      c.if-locals_stand.false,
-    )
-
-pub returns-then-lengths_exact : goal.returns-then-lengths_exact
-unfolding standing past_held
-returns-then-lengths_exact c =
-    let x = exact-says _ _ _ _ (sym c.accepts.ensures ∙ c.if-accepts.true) (sym (c.lengths_exact.ensures _) ∙ c.if-lengths_exact.true) in
-    rw (
-      ← c.accepts.ensures,
-      c.if-accepts.true,
-      ← c.lengths_exact.ensures _,
-      c.if-lengths_exact.true,
-      ← x.entries,
-      ← c.entries_stand.ensures _,
-      c.if-entries_stand.false,
-    )
-
-pub returns-then-accepts : goal.returns-then-accepts
-unfolding standing past_held
-returns-then-accepts c =
-    rw (
-      ← c.accepts.ensures,
-      c.if-accepts.true,
-      ← c.lengths_exact.ensures _,
-      c.if-lengths_exact.false,
-    )
-
-pub returns : goal.returns
-unfolding standing past_held
-returns c =
-    rw (
-      ← c.accepts.ensures,
-      c.if-accepts.false,
-    )
+pub returns-else-reserved_count-present_count : goal.returns-else-reserved_count-present_count
+returns-else-reserved_count-present_count c = grind (arith, nat_tests, standing-exact, standing-inexact)

@@ -1,0 +1,2 @@
+-- a count as a sum over places
+pub mod Counted
