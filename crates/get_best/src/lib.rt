@@ -22,18 +22,13 @@ pub fn admit(best: [u64; 8], m: usize, key: usize, t: usize) -> [u64; 8]
     let mut s = best;
     let mut moving = key as u64 * 0x1_0000_0000 + t as u64;
     let mut inside = false;
-    let mut k: usize = 0;
-    while k < m {
+    for k in 0..m {
         let y = s[k];
+        inside |= y / 0x1_0000_0000 < moving / 0x1_0000_0000;
         if inside {
             s[k] = moving;
             moving = y;
-        } else if y / 0x1_0000_0000 < moving / 0x1_0000_0000 {
-            s[k] = moving;
-            moving = y;
-            inside = true;
         }
-        k += 1;
     }
     s
 }

@@ -1,5 +1,5 @@
 // The rating of a tree in each of the three walks, by the policy's answer.
-#![tactic(auto)]
+#![tactic(auto, using(std::proofs::lemmas::Bool::Decides::nat_tests), unfolding(rules_calls::specs::Walking::rated_in, rules_calls::specs::Walking::rate, rules::specs::Policy::policy, crate::specs::Rating::rating_of))]
 
 ghost use Rattle.std.specs.Prelude.{◌≡◌, ◌<◌, ◌≤◌, eqb};
 ghost use Rattle.rules.specs.Words.{config};
@@ -18,26 +18,15 @@ fn rated_in(walk: Walk, full: bool, kind: Kind) -> usize
 {
     match walk {
         Walk::Near => match kind {
-            Kind::Invalid => 0,
-            Kind::Steal => 0,
-            Kind::Demote => {
-                if full {
-                    return 2;
-                }
-                0
-            }
+            Kind::Demote if full => 2,
+            Kind::Invalid | Kind::Steal | Kind::Demote => 0,
             Kind::Match(r) => 3 + r,
         },
         Walk::Far => match kind {
             Kind::Invalid => 0,
             Kind::Steal => 1,
-            Kind::Demote => {
-                if full {
-                    return 258;
-                }
-                2
-            }
-            Kind::Match(_) => 258,
+            Kind::Demote if !full => 2,
+            Kind::Demote | Kind::Match(_) => 258,
         },
         Walk::Stealing => match kind {
             Kind::Invalid => 0,
@@ -61,10 +50,7 @@ pub fn rate(table: &[u32; 64], q: Request, walk: Walk, e: Tree) -> usize
     requires { (q.order ≤ 11) × ((q.class < 8) × (e.class < 8)) }
     ensures { ((h : Header) → result ≡ rate (config h table.now) q walk e) × (result ≤ 258) }
 {
-    if e.reserved {
-        return 0;
-    }
-    if e.free < word_sizes::size(q.order) {
+    if e.reserved || e.free < word_sizes::size(q.order) {
         return 0;
     }
     rated_of(word_policy::pair_at(table, q.class, e.class), walk, e.free)

@@ -1,5 +1,5 @@
 // The trees of a walk: how far near is, where a reserving search begins, which tree each step visits.
-#![tactic(auto)]
+#![tactic(auto, using(std::proofs::lemmas::Bool::Decides::nat_tests), unfolding(rules_calls::specs::Search::near, rules_calls::specs::Walking::walk_tree))]
 
 ghost use Rattle.std.specs.Prelude.{◌≡◌, ◌%◌, ◌^◌, ◌<◌, ◌≤◌};
 ghost use Rattle.rules_calls.specs.Search.{near, rounded_start};
@@ -10,7 +10,7 @@ pub fn near(n: usize) -> usize
     requires { n ≤ 1024 }
     ensures { (result ≡ near n) × (result ≤ 64) }
 {
-    if n / 16 < 4 { 4 } else { n / 16 }
+    (n / 16).max(4)
 }
 
 // The start rounded down to a multiple of the least power of two not below 2 × near.
@@ -19,12 +19,10 @@ pub fn rounded_start(n: usize, start: usize) -> usize
     ensures { (result ≡ rounded_start n start) × (result ≤ start) }
 {
     let least = 2 * near(n);
-    let mut e: usize = 0;
-    while e < 8 {
+    for e in 0..8 {
         if least <= word_sizes::size(e) {
             return (start >> e) << e;
         }
-        e += 1;
     }
     0
 }
@@ -51,9 +49,5 @@ pub fn walk_tree(n: usize, start: usize, i: usize) -> usize
     if i % 2 == 0 {
         return within(start + i / 2, n);
     }
-    let back = (i + 1) / 2;
-    if start + n < back {
-        return 0;
-    }
-    within(start + n - back, n)
+    within((start + n).saturating_sub((i + 1) / 2), n)
 }

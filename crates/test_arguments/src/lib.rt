@@ -1,5 +1,5 @@
 // The argument tests of a get and a put: the refusals 2 to 6, and the frame that a get is tested with.
-#![tactic(auto)]
+#![tactic(auto, using(std::proofs::lemmas::Bool::Decides::nat_tests), unfolding(rules_calls::specs::Calls::outcome_of, rules_calls::specs::Calls::number_of, rules_calls::specs::Calls::refuse_local, rules_calls::specs::Calls::refuse_class, rules_calls::specs::Calls::refusal, rules::specs::Base::ifte, rules_calls::specs::Calls::frame_of))]
 
 ghost use Rattle.std.specs.Prelude.{◌≡◌, List, ℕ, ◌<◌};
 ghost use Rattle.rules.specs.Words.{config};
@@ -17,9 +17,10 @@ fn check_local(h: Header, class: usize, local: Given) -> Outcome
         Given::Nothing => Outcome::Done,
         Given::Local(i) => {
             if i < word_header::locals_of(h, class) {
-                return Outcome::Done;
+                Outcome::Done
+            } else {
+                Outcome::Refused(Refusal::Local)
             }
-            Outcome::Refused(Refusal::Local)
         }
     }
 }
@@ -28,14 +29,10 @@ fn check_local(h: Header, class: usize, local: Given) -> Outcome
 fn check_class(h: Header, q: Request) -> Outcome
     ensures { (pairs : List ℕ) → outcome_of result ≡ refuse_class (config h pairs) q }
 {
-    if 7 < q.class {
+    if 7 < q.class || !word_header::is_configured(h, q.class) {
         return Outcome::Refused(Refusal::Class);
     }
-    if word_header::is_configured(h, q.class) {
-        let local = q.local;
-        return check_local(h, q.class, local);
-    }
-    Outcome::Refused(Refusal::Class)
+    check_local(h, q.class, q.local)
 }
 
 // The refusals 2 to 6, tried in that order. The sum of frame and 2^order is not formed, so that nothing wraps.
@@ -46,16 +43,13 @@ pub fn check(h: Header, q: Request, frame: usize) -> Outcome
         return Outcome::Refused(Refusal::Order);
     }
     let n = word_sizes::size(q.order);
-    if h.frames < n {
+    if h.frames < n || h.frames - n < frame {
         return Outcome::Refused(Refusal::Bounds);
     }
-    if h.frames - n < frame {
-        return Outcome::Refused(Refusal::Bounds);
+    if frame % n != 0 {
+        return Outcome::Refused(Refusal::Misaligned);
     }
-    if frame % n == 0 {
-        return check_class(h, q);
-    }
-    Outcome::Refused(Refusal::Misaligned)
+    check_class(h, q)
 }
 
 // The frame that a get names, 0 if none.
