@@ -1,5 +1,5 @@
 // The list of the best trees of a walk, by value: what it is ordered by, and a tree admitted to it.
-#![tactic(auto)]
+#![tactic(auto, using(std::proofs::lemmas::Bool::Decides::nat_tests))]
 
 ghost use Rattle.std.specs.Prelude.{◌≡◌, ◌+◌, ◌*◌, ◌^◌, ◌<◌, ◌≤◌, eqb};
 ghost use Rattle.rules.specs.Base.{bit_of};
@@ -11,7 +11,7 @@ pub fn key(r: usize, free: usize) -> usize
     requires { r ≤ 258 }
     ensures { (result ≡ 2 * r + bit_of (eqb free 2048)) × ((r ≤ result) × (result < 1024)) }
 {
-    if free == 2048 { 2 * r + 1 } else { 2 * r }
+    2 * r + usize::from(free == 2048)
 }
 
 // A list of the best m, a rated tree offered: it goes before the first that is strictly worse, the last of a full list falls out.

@@ -1,13 +1,13 @@
 -- `get_best::admit` meets its contract: the loop keeps what the insertion from its place on makes of the words. Assumes nothing.
 use mathlib.Core.Path.{◌≡◌}
 use mathlib.Core.Bool.{false}
-use Prim.Native.Nat.{◌≤◌, ◌-◌, ◌+◌, ◌*◌, ◌^◌}
+use Prim.Native.Nat.{◌-◌, ◌+◌, ◌*◌, ◌^◌}
 use lib.ListN.{length}
 use Rattle.get_best.specs.Insertion.{inserted, inserted_from}
 use Rattle.get_best.proofs.admit.Given as goal
 
 abbrev pub invariant-loop-k : goal.invariant-loop-k
-invariant-loop-k l = (l.k ≤ l.m) × (length l.s ≡ 8) × (inserted_from l.k (l.m - l.k) l.inside l.moving l.s ≡ inserted l.m false (l.key * 2 ^ 32 + l.t) l.initial.s)
-
-abbrev pub decreases-loop-k : goal.decreases-loop-k
-decreases-loop-k l = l.m - l.k
+invariant-loop-k l = record {
+  places : length l.s ≡ 8;
+  rest : inserted_from l.k (l.m - l.k) l.inside l.moving l.s ≡ inserted l.m false (l.key * 2 ^ 32 + l.t) l.initial.s;
+}
