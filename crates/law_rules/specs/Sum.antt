@@ -73,3 +73,6 @@ pub sum-ext : (f g : ℕ → ℕ) (a n : ℕ) → ((i : ℕ) → a ≤ i → i <
 unfolding sum
 sum-ext f g a zero h = refl
 sum-ext f g a (suc n) h = ap₂ (λ (x y : ℕ). x + y) (sum-ext f g a n (λ i l m. h i l (omega arith))) (h (a + n) (omega arith) (omega arith))
+
+-- the laws that a loop over a sum goes by
+pub ruleset sum_loop = (sum-none, sum_more)

@@ -2,10 +2,7 @@
 #![tactic(auto)]
 
 ghost use Rattle.std.specs.Prelude.{◌≡◌, ◌^◌, ◌<◌, ◌≤◌};
-ghost use Rattle.rules.specs.Base.{pick};
 ghost use Rattle.stats_by_class.specs.Sums.{free_at, alloc_at, tree_at, held_on, Summed};
-
-use rules::Local;
 
 // By class, of the entries that have it: their free, 2,048 less their free, their number.
 #[derive(Clone, Copy)]
@@ -27,22 +24,15 @@ pub fn entries_by_class(trees: &[u32], n: usize) -> Entries
     for t in 0..n {
         let e = tree_words::load(trees, t);
         let k = e.class;
-        free[k] = free[k] + e.free;
-        alloc[k] = alloc[k] + word_sizes::less(2048, e.free);
-        count[k] = count[k] + 1;
+        free[k] += e.free;
+        alloc[k] += 2048usize.saturating_sub(e.free);
+        count[k] += 1;
     }
     Entries {
-        free: free,
-        alloc: alloc,
+        free,
+        alloc,
         trees: count,
     }
-}
-
-// The free of a local that is present, else 0.
-fn present_free(l: Local) -> usize
-    ensures { (result ≡ pick l.present l.free 0) × (result ≤ l.free) }
-{
-    if l.present { l.free } else { 0 }
 }
 
 // The free of the first n locals that are present, by the class of their tree's entry.
@@ -53,9 +43,10 @@ pub fn reserved_by_class(trees: &[u32], locals: &[u64], n: usize) -> [usize; 8]
     let mut free = [0usize; 8];
     for j in 0..n {
         let l = local_words::load(locals, j);
-        let e = tree_words::load(trees, l.row / 32);
-        let k = e.class;
-        free[k] = free[k] + present_free(l);
+        if l.present {
+            let k = tree_words::load(trees, l.row / 32).class;
+            free[k] += l.free;
+        }
     }
     free
 }

@@ -1,5 +1,5 @@
 // The rows of the statistics by value: the row of a class, the eight rows.
-#![tactic(auto)]
+#![tactic(auto, using(law_rules::specs::Sum::sum_loop, stats_by_class::specs::Sums::few), unfolding(rules_calls::specs::Statistics::local_free, rules::specs::Words::slot, crate::specs::Rows::free_from, crate::specs::Rows::row_of))]
 
 ghost use Rattle.std.specs.Prelude.{◌≡◌, List, ℕ, ◌^◌, ◌<◌, ◌≤◌, get_or};
 ghost use Rattle.rules.specs.Words.{config};
@@ -19,36 +19,22 @@ fn local_free(h: Header, locals: &[u64], class: usize) -> usize
     let n = word_header::locals_of(h, class);
     let mut free: usize = 0;
     for i in 0..n {
-        let l = local_words::load(locals, first + i);
-        free = free + l.free;
+        free += local_words::load(locals, first + i).free;
     }
     free
 }
 
-// The row of a class, of the entries by class, the free of the class's locals, and the free of the reservations by class.
-fn row(e: Entries, more: usize, reserved: [usize; 8], class: usize) -> Tally
-    requires { (class < 8) × ((get_or e.free class 0 < 2 ^ 40) × ((get_or e.trees class 0 < 2 ^ 40) × (more < 2 ^ 60))) }
-    ensures { result ≡ row_of 11 e more reserved class }
-{
-    let free = e.free;
-    let alloc = e.alloc;
-    let trees = e.trees;
-    Tally {
-        free: free[class] + more,
-        alloc: alloc[class],
-        used: word_sizes::less(
-            word_sizes::less(2048 * trees[class], free[class]),
-            reserved[class],
-        ),
-    }
-}
-
-// The row of a class.
+// The row of a class, of the entries by class, and the free of the reservations by class.
 fn class_row(h: Header, locals: &[u64], e: Entries, reserved: [usize; 8], class: usize) -> Tally
     requires { (class < 8) × ((get_or e.free class 0 < 2 ^ 40) × (get_or e.trees class 0 < 2 ^ 40)) }
     ensures { (pairs : List ℕ) → result ≡ row_of 11 e (local_free (config h pairs) locals.now class) reserved class }
 {
-    row(e, local_free(h, locals, class), reserved, class)
+    let taken = (2048 * e.trees[class]).saturating_sub(e.free[class]);
+    Tally {
+        free: e.free[class] + local_free(h, locals, class),
+        alloc: e.alloc[class],
+        used: taken.saturating_sub(reserved[class]),
+    }
 }
 
 // The eight rows, one for each class.
@@ -65,7 +51,7 @@ pub struct Rows {
 }
 
 // The rows of all classes.
-pub fn all_rows<'a>(h: Header, trees: &'a [u32], locals: &'a [u64]) -> Rows
+pub fn all_rows(h: Header, trees: &[u32], locals: &[u64]) -> Rows
     requires { h.frames ≤ 2 ^ 21 }
     ensures { (pairs : List ℕ) → result ≡ rows_of (tally (config h pairs) trees.now locals.now) }
 {

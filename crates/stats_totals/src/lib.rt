@@ -1,5 +1,5 @@
 // The whole of the statistics by value: total free and free trees.
-#![tactic(auto)]
+#![tactic(auto, using(law_rules::specs::Sum::sum_loop), unfolding(crate::specs::Wholes::entries_free, crate::specs::Wholes::entries_whole, crate::specs::Wholes::locals_free, crate::specs::Wholes::locals_whole, rules_calls::specs::Statistics::total_free, rules_calls::specs::Statistics::free_trees))]
 
 ghost use Rattle.std.specs.Prelude.{◌≡◌, List, ℕ, ◌^◌, ◌<◌, ◌≤◌};
 ghost use Rattle.rules.specs.Words.{config};
@@ -25,13 +25,10 @@ fn entries_whole(trees: &[u32], n: usize) -> Whole
     let mut whole: usize = 0;
     for t in 0..n {
         let e = tree_words::load(trees, t);
-        free = free + e.free;
-        whole = whole + e.free / 2048;
+        free += e.free;
+        whole += e.free / 2048;
     }
-    Whole {
-        free: free,
-        trees: whole,
-    }
+    Whole { free, trees: whole }
 }
 
 // Total free and free trees of the first n locals.
@@ -44,13 +41,10 @@ fn locals_whole(locals: &[u64], n: usize) -> Whole
     let mut whole: usize = 0;
     for j in 0..n {
         let l = local_words::load(locals, j);
-        free = free + l.free;
-        whole = whole + l.free / 2048;
+        free += l.free;
+        whole += l.free / 2048;
     }
-    Whole {
-        free: free,
-        trees: whole,
-    }
+    Whole { free, trees: whole }
 }
 
 // Total free sums entries and locals; free trees are each entry's and each local's, rounded down, then summed.

@@ -1,10 +1,7 @@
--- `stats_by_class::reserved_by_class` meets its contract. The loop's invariant: the sums by class over the locals passed. Assumes nothing.
-use Prim.Native.Nat.{◌-◌, ◌^◌, ◌≤◌}
+-- `stats_by_class::reserved_by_class`: the sums by class over the locals passed. Assumes nothing.
+use Prim.Native.Nat.{◌^◌}
 use Rattle.stats_by_class.specs.Sums.{held_on, Summed}
 use Rattle.stats_by_class.proofs.reserved_by_class.Given as goal
 
 abbrev pub invariant-loop-j : goal.invariant-loop-j
-invariant-loop-j l = (l.j ≤ l.n) × Summed (held_on 11 l.trees l.locals) (2 ^ 19) l.free l.j
-
-abbrev pub decreases-loop-j : goal.decreases-loop-j
-decreases-loop-j l = l.n - l.j
+invariant-loop-j l = Summed (held_on 11 l.trees l.locals) (2 ^ 19) l.free l.j

@@ -4,61 +4,11 @@ use Prim.Native.Nat.{ℕ, ◌<◌}
 use native.Mathlib.Omega.{arith}
 use Rattle.rules.specs.Words.{config}
 use Rattle.rules_calls.specs.Statistics.{local_free, tally}
-use Rattle.stats_by_class.specs.Sums.{summed-few}
 use Rattle.stats_rows.specs.Rows.{row_of, row_is, eight}
-use borrow.Author.Rules.{rules}
 use Rattle.stats_rows.proofs.all_rows.Goals as goal
 
 pub entries_by_class-e-requires : goal.entries_by_class-e-requires
 entries_by_class-e-requires c = c.tree_count.ensures.1.1
-
-pub class_row-requires : goal.class_row-requires
-class_row-requires c =
-    let e = c.entries_by_class-e.ensures in
-    let n = c.tree_count.ensures.1.1 in
-    (search rules, (summed-few _ _ _ _ (omega arith) n e.0 0 (omega arith), summed-few _ _ _ _ (omega arith) n e.1.1 0 (omega arith)))
-
-pub class_row-requires-2 : goal.class_row-requires-2
-class_row-requires-2 c =
-    let e = c.entries_by_class-e.ensures in
-    let n = c.tree_count.ensures.1.1 in
-    (search rules, (summed-few _ _ _ _ (omega arith) n e.0 1 (omega arith), summed-few _ _ _ _ (omega arith) n e.1.1 1 (omega arith)))
-
-pub class_row-requires-3 : goal.class_row-requires-3
-class_row-requires-3 c =
-    let e = c.entries_by_class-e.ensures in
-    let n = c.tree_count.ensures.1.1 in
-    (search rules, (summed-few _ _ _ _ (omega arith) n e.0 2 (omega arith), summed-few _ _ _ _ (omega arith) n e.1.1 2 (omega arith)))
-
-pub class_row-requires-4 : goal.class_row-requires-4
-class_row-requires-4 c =
-    let e = c.entries_by_class-e.ensures in
-    let n = c.tree_count.ensures.1.1 in
-    (search rules, (summed-few _ _ _ _ (omega arith) n e.0 3 (omega arith), summed-few _ _ _ _ (omega arith) n e.1.1 3 (omega arith)))
-
-pub class_row-requires-5 : goal.class_row-requires-5
-class_row-requires-5 c =
-    let e = c.entries_by_class-e.ensures in
-    let n = c.tree_count.ensures.1.1 in
-    (search rules, (summed-few _ _ _ _ (omega arith) n e.0 4 (omega arith), summed-few _ _ _ _ (omega arith) n e.1.1 4 (omega arith)))
-
-pub class_row-requires-6 : goal.class_row-requires-6
-class_row-requires-6 c =
-    let e = c.entries_by_class-e.ensures in
-    let n = c.tree_count.ensures.1.1 in
-    (search rules, (summed-few _ _ _ _ (omega arith) n e.0 5 (omega arith), summed-few _ _ _ _ (omega arith) n e.1.1 5 (omega arith)))
-
-pub class_row-requires-7 : goal.class_row-requires-7
-class_row-requires-7 c =
-    let e = c.entries_by_class-e.ensures in
-    let n = c.tree_count.ensures.1.1 in
-    (search rules, (summed-few _ _ _ _ (omega arith) n e.0 6 (omega arith), summed-few _ _ _ _ (omega arith) n e.1.1 6 (omega arith)))
-
-pub class_row-requires-8 : goal.class_row-requires-8
-class_row-requires-8 c =
-    let e = c.entries_by_class-e.ensures in
-    let n = c.tree_count.ensures.1.1 in
-    (search rules, (summed-few _ _ _ _ (omega arith) n e.0 7 (omega arith), summed-few _ _ _ _ (omega arith) n e.1.1 7 (omega arith)))
 
 pub returns : goal.returns
 returns c = λ pairs.

@@ -1,10 +1,7 @@
--- `stats_totals::totals` meets its contract. Assumes nothing.
+-- Both sums, over the trees and locals of the header. Assumes nothing.
 use Rattle.rules_calls.specs.Statistics.{total_free, free_trees}
 use Rattle.stats_totals.specs.Wholes.{entries_free, entries_whole, locals_free, locals_whole}
 use Rattle.stats_totals.proofs.totals.Goals as goal
-
-pub entries_whole-a-requires : goal.entries_whole-a-requires
-entries_whole-a-requires c = c.tree_count.ensures.1.1
 
 pub returns : goal.returns
 unfolding total_free free_trees entries_free entries_whole locals_free locals_whole
