@@ -67,14 +67,6 @@ module _ (f : ℕ → ℕ → ℕ) (m : ℕ) where
       at-most true = h
       at-most false = omega arith
 
-  -- over one more, which counts for no class
-  pub summed-same : (a : List ℕ) (n : ℕ) → ((k : ℕ) → f k n ≡ 0) → Summed f m a n → Summed f m a (n + 1)
-  summed-same a n e s = record {
-    len = s.len;
-    sums = λ k b. rw (sum_more, e k, add-zero) (s.sums k b);
-    most = λ k b. let q : get_or a k 0 ≤ m * n = s.most k b in omega arith;
-  }
-
   -- they are small
   pub summed-few : (a : List ℕ) (n : ℕ) → m ≤ 2 ^ 28 → n ≤ 1024 → Summed f m a n → (k : ℕ) → k < 8 → get_or a k 0 < 2 ^ 40
   summed-few a n h l s k b =

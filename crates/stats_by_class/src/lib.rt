@@ -43,10 +43,8 @@ pub fn reserved_by_class(trees: &[u32], locals: &[u64], n: usize) -> [usize; 8]
     let mut free = [0usize; 8];
     for j in 0..n {
         let l = local_words::load(locals, j);
-        if l.present {
-            let k = tree_words::load(trees, l.row / 32).class;
-            free[k] += l.free;
-        }
+        let k = tree_words::load(trees, l.row / 32).class;
+        free[k] += if l.present { l.free } else { 0 };
     }
     free
 }
