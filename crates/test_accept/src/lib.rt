@@ -13,12 +13,7 @@ use rules::Header;
 fn places_fit(h: Header) -> bool
     ensures { result ≡ all_below 8 (place_fits h.places) }
 {
-    for place in h.places {
-        if 33 < place {
-            return false;
-        }
-    }
-    true
+    h.places.iter().all(|place| *place <= 33)
 }
 
 // Header and policy table as a start accepts them.
