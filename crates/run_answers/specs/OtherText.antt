@@ -1,5 +1,6 @@
 -- The text of each answer but a get's, in ASCII. Assumes nothing.
-use Rattle.std.specs.Prelude.{List, [], ◌∷◌, ◌++◌, ℕ, ◌+◌, Result, Ok, Err, ⊤}
+use Rattle.std.specs.Prelude.{List, [], ◌∷◌, ◌++◌, ℕ, zero, suc, ◌+◌, ◌<◌, ◌≡◌, length, take, get_or, Result, Ok, Err, ⊤}
+use Rattle.std.proofs.Common.{sym, ap, ◌∙◌, add-zero, add-one, append-nil, append_assoc, arith}
 use Rattle.text_bytes.specs.Text.{say}
 use Rattle.text_names.specs.Names.{end, field, name_at}
 use Rattle.rules_calls.specs.declared.Tally.{Tally}
@@ -20,6 +21,22 @@ row_text c t = field "row " c ++ field " free " t.free ++ field " alloc " t.allo
 unfoldable pub rows_text : ℕ → List Tally → List ℕ
 rows_text k [] = []
 rows_text k (t ∷ ts) = row_text k t ++ rows_text (k + 1) ts
+
+next : (k n : ℕ) (ts : List Tally) (d : Tally) → n < length ts → rows_text k (take (suc n) ts) ≡ rows_text k (take n ts) ++ row_text (k + n) (get_or ts n d)
+unfolding rows_text
+next k n [] d l = absurd (omega arith)
+next k zero (t ∷ ts) d l = ap (λ (j : ℕ). row_text j t ++ []) (sym (add-zero k)) ∙ append-nil _
+next k (suc n) (t ∷ ts) d l =
+    let e : k + 1 + n ≡ k + suc n = omega arith in
+    ap (λ (x : List ℕ). row_text k t ++ x) (next (k + 1) n ts d (omega arith))
+    ∙ sym (append_assoc (row_text k t) (rows_text (k + 1) (take n ts)) (row_text (k + 1 + n) (get_or ts n d)))
+    ∙ ap (λ (j : ℕ). (row_text k t ++ rows_text (k + 1) (take n ts)) ++ row_text j (get_or ts n d)) e
+
+-- one row more
+pub rows-next : (n : ℕ) (ts : List Tally) (d : Tally) → n < length ts → rows_text 0 (take n ts) ++ row_text n (get_or ts n d) ≡ rows_text 0 (take (n + 1) ts)
+rows-next n ts d l =
+    ap (λ (j : ℕ). rows_text 0 (take n ts) ++ row_text j (get_or ts n d)) (let e : n ≡ 0 + n = omega arith in e)
+    ∙ sym (next 0 n ts d l) ∙ ap (λ (m : ℕ). rows_text 0 (take m ts)) (sym (add-one n))
 
 -- the line of the number and the totals
 unfoldable pub totals_text : ℕ → Totals → List ℕ

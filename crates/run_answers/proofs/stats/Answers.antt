@@ -1,12 +1,12 @@
 -- `run_answers::stats` meets its contract. Assumes nothing.
-use Rattle.text_bytes.specs.Text.{and_then, and-nothing}
-use Rattle.run_answers.specs.OtherText.{stats_text, rows_if}
+use Rattle.text_bytes.specs.Text.{and_then}
+use Rattle.run_answers.specs.OtherText.{stats_text}
 use Rattle.run_answers.proofs.stats.Goals as goal
 
-pub returns-then-told : goal.returns-then-told
-unfolding stats_text rows_if
-returns-then-told c = rw c.if-told.true (and_then _ _ _ _ _ c.totals-to.ensures c.rows.ensures)
+pub returns-in-Ok : goal.returns-in-Ok
+unfolding stats_text
+returns-in-Ok c = rw c.in-Ok.is (and_then _ _ _ _ _ c.totals-to.ensures c.rows.ensures)
 
-pub returns : goal.returns
-unfolding stats_text rows_if
-returns c = rw c.if-told.false (and-nothing _ _ _ c.totals-to.ensures)
+pub returns-in-Err : goal.returns-in-Err
+unfolding stats_text
+returns-in-Err c = rw (c.in-Err.is, ← c.refusal_number.ensures) c.totals.ensures

@@ -6,8 +6,8 @@ use Rattle.run_answers.proofs.totals.Goals as goal
 pub returns : goal.returns
 unfolding totals_text say
 returns c =
-    rw (← c.number.ensures) (and_byte _ _ _ _ _ (and_then _ _ _ _ _ (and_then _ _ _ _ _ (and_then _ _ _ _ _ c.append-to.ensures
+    and_byte _ _ _ _ _ (and_then _ _ _ _ _ (and_then _ _ _ _ _ (and_then _ _ _ _ _ c.append-to.ensures
     c.name-to.ensures)
     c.put_number-to.ensures)
     c.put_number-to-2.ensures)
-    c.put_byte.ensures)
+    c.put_byte.ensures
