@@ -1,23 +1,22 @@
 // The boot patterns on the store: a pattern's blocks are taken and given back, and it is held whole or not at all.
 #![tactic(auto)]
 
-ghost use Rattle.std.specs.Prelude.{◌≡◌, true};
+ghost use Rattle.std.specs.Prelude.{◌≡◌, IfOk};
 ghost use Rattle.boot_patterns.specs.Patterns.{frames_of};
 
 use boot_patterns::Pattern;
 use rules::Header;
 use rules_calls::Granted;
 
-// What is held of a pattern: whether it is whole, and how many frames. The binary digits of that number are the orders of the blocks; the block
-// of an order begins at first[order].
+// What is held of a pattern: how many frames. The binary digits of that number are the orders of the blocks; the block of an order begins at
+// first[order].
 #[derive(Clone, Copy)]
 pub struct Held {
-    pub whole: bool,
     pub frames: usize,
     pub first: [usize; 12],
 }
 
-// Takes a pattern's blocks, the largest first, up to the first refusal.
+// Takes a pattern's blocks, the largest first: the whole of it, or what was taken up to the first refusal.
 fn take(
     h: Header,
     table: &[u32; 64],
@@ -25,15 +24,14 @@ fn take(
     locals: &mut [u64],
     bits: &mut [u64],
     p: Pattern,
-) -> Held
-    ensures { result.whole ≡ true → result.frames ≡ frames_of p }
+) -> Result<Held, Held>
+    ensures { IfOk result (λ held. held.frames ≡ frames_of p) }
 {
     let wanted = boot_patterns::frames(p);
     let mut frames = 0;
     let mut first = [0usize; 12];
-    let mut order = 12;
-    while order > 0 {
-        order -= 1;
+    for step in 0..12 {
+        let order = 11 - step;
         if !boot_patterns::has_block(wanted, order) {
             continue;
         }
@@ -41,20 +39,12 @@ fn take(
         let reply = get::get(h, table, trees, locals, bits, None, q);
         boot_says::got(p, order, reply);
         let Ok(Granted { frame, .. }) = reply.granted else {
-            return Held {
-                whole: false,
-                frames: frames,
-                first: first,
-            };
+            return Err(Held { frames, first });
         };
         first[order] = frame;
         frames = boot_patterns::with_block(frames, order);
     }
-    Held {
-        whole: true,
-        frames: frames,
-        first: first,
-    }
+    Ok(Held { frames, first })
 }
 
 // Gives back the blocks that are held of a pattern, with the class and local that they were taken with.
@@ -69,9 +59,8 @@ pub fn give(
 ) {
     let frames = held.frames;
     let first = held.first;
-    let mut order = 12;
-    while order > 0 {
-        order -= 1;
+    for step in 0..12 {
+        let order = 11 - step;
         if !boot_patterns::has_block(frames, order) {
             continue;
         }
@@ -84,7 +73,6 @@ pub fn give(
 // Nothing is held.
 pub fn nothing() -> Held {
     Held {
-        whole: false,
         frames: 0,
         first: [0; 12],
     }
@@ -99,12 +87,15 @@ pub fn show(
     bits: &mut [u64],
     p: Pattern,
 ) -> Held {
-    let held = take(h, table, trees, locals, bits, p);
-    if held.whole {
-        boot_says::shown(p);
-        return held;
+    match take(h, table, trees, locals, bits, p) {
+        Ok(held) => {
+            boot_says::shown(p);
+            held
+        }
+        Err(part) => {
+            give(h, table, trees, locals, bits, p, part);
+            boot_says::built_in(p);
+            nothing()
+        }
     }
-    give(h, table, trees, locals, bits, p, held);
-    boot_says::built_in(p);
-    nothing()
 }

@@ -1,47 +1,48 @@
 -- What the goals of `boot_shows::take` follow from. Assumes nothing.
-use borrow.Author.Rules.{rules}
-use native.Mathlib.Omega.{arith}
-use Prim.Native.Nat.{◌<◌}
-use mathlib.Core.Path.{◌≡◌, sym, ◌∙◌}
-use Rattle.boot_patterns.specs.Patterns.{frames_of, frames-few, above-all, above_zero, above-le, above-digit, above-none}
+use Rattle.std.proofs.Common.{◌≡◌, ℕ, ◌+◌, ◌-◌, ◌/◌, ◌%◌, ◌^◌, ◌<◌, true, false, sym, ap, ◌∙◌, arith}
+use lib.Dec.{eqb}
+use Rattle.boot_patterns.specs.Patterns.{frames_of, frames-few, above, above-all, above_zero, above-le, above-digit, above-none}
 use Rattle.boot_shows.proofs.take.Goals as goal
 
-pub loop-order-init : goal.loop-order-init
-loop-order-init c =
+-- a step on, without a block of order o or with one
+module _ (n s : ℕ) (lt : s < 12) where
+  none : eqb (n / 2 ^ (11 - s) % 2) 1 ≡ false → above n (12 - s) ≡ above n (12 - (s + 1))
+  none h =
+      let a : 12 - s - 1 ≡ 11 - s = omega arith in
+      let b : 12 - s - 1 ≡ 12 - (s + 1) = omega arith in
+      above-none n (12 - s) (omega arith) (rw a h) ∙ ap (above n) b
+
+  one : eqb (n / 2 ^ (11 - s) % 2) 1 ≡ true → above n (12 - s) + 2 ^ (11 - s) ≡ above n (12 - (s + 1))
+  one h =
+      let a : 12 - s - 1 ≡ 11 - s = omega arith in
+      let b : 12 - s - 1 ≡ 12 - (s + 1) = omega arith in
+      ap (λ (o : ℕ). above n (12 - s) + 2 ^ o) (sym a) ∙ above-digit n (12 - s) (omega arith) (rw a h) ∙ ap (above n) b
+
+pub loop-step-init : goal.loop-step-init
+loop-step-init c =
     let few : frames_of c.args.p < 4096 = frames-few c.args.p in
-    let e = c.frames-wanted.ensures in
-    (search rules, (sym (above-all c.frames-wanted.result (omega arith)), (c.frames-wanted.ensures, search rules)))
+    record { taken = sym (above-all c.frames-wanted.result (omega (arith, c.frames-wanted.ensures))); wanted = c.frames-wanted.ensures }
 
-pub loop-order-preserved-then-not-has_block : goal.loop-order-preserved-then-not-has_block
-loop-order-preserved-then-not-has_block c =
-    let i = c.loop-order.invariant in (
-      search rules,
-      (
-        i.1.0 ∙ above-none c.frames-wanted.result c.loop-order.order c.loop-order-test.true (sym c.has_block.ensures ∙ c.if-not-has_block.true),
-        (i.1.1.0, i.1.1.1),
-      ),
-    )
-
-pub returns-in_default : goal.returns-in_default
-returns-in_default c = λ h. cc
+pub loop-step-preserved-then-not-has_block : goal.loop-step-preserved-then-not-has_block
+loop-step-preserved-then-not-has_block c =
+    let i = c.loop-step.invariant in
+    record { taken = i.taken ∙ none c.frames-wanted.result c.loop-step.step c.loop-step-test.true (sym c.has_block.ensures ∙ c.if-not-has_block.true); wanted = i.wanted }
 
 pub with_block-frames-requires : goal.with_block-frames-requires
 with_block-frames-requires c =
-    let i = c.loop-order.invariant in
+    let i = c.loop-step.invariant in
     let few : frames_of c.args.p < 4096 = frames-few c.args.p in
-    let l = above-le c.frames-wanted.result c.loop-order.order in
-    (omega (arith, i.1.0, i.1.1.0), search rules)
+    let l = above-le c.frames-wanted.result (12 - c.loop-step.step) in
+    (omega (arith, i.taken, i.wanted), omega arith)
 
-pub loop-order-preserved : goal.loop-order-preserved
-loop-order-preserved c =
-    let i = c.loop-order.invariant in
-    let d = above-digit c.frames-wanted.result c.loop-order.order c.loop-order-test.true (sym c.has_block.ensures ∙ c.if-not-has_block.false) in
-    let k = c.get-reply.auto in
-    (search rules, (rw (← d, ← i.1.0, c.with_block-frames.ensures), (i.1.1.0, (k.trees ∙ i.1.1.1.0, (k.locals ∙ i.1.1.1.1.0, k.bits ∙ i.1.1.1.1.1)))))
+pub loop-step-preserved : goal.loop-step-preserved
+loop-step-preserved c =
+    let i = c.loop-step.invariant in
+    let d = one c.frames-wanted.result c.loop-step.step c.loop-step-test.true (sym c.has_block.ensures ∙ c.if-not-has_block.false) in
+    record { taken = c.with_block-frames.ensures ∙ ap (λ (x : ℕ). x + 2 ^ (11 - c.loop-step.step)) i.taken ∙ d; wanted = i.wanted }
 
 pub returns : goal.returns
 returns c =
-    λ h.
-    let i = c.loop-order.invariant in
-    let z : c.loop-order.order ≡ 0 = omega arith in
-    i.1.0 ∙ (rw z (above_zero _) ∙ i.1.1.0)
+    let i = c.loop-step.invariant in
+    let z : 12 - c.loop-step.step ≡ 0 = omega (arith, c.loop-step-test.false) in
+    i.taken ∙ (rw z (above_zero _)) ∙ i.wanted
