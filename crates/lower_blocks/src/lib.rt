@@ -52,7 +52,7 @@ pub fn is_held(words: &[u64], order: usize, block: usize) -> bool
     }
 }
 
-// Whether no frame of a block within a word is held.
+// Whether no frame of a block within a word is held. A word by value: as `is_free(&[w], order, block)`, which was tried and proved, a get of the orders 0 to 5 took a fifth longer; the same of `word_held`.
 pub fn word_free(w: u64, order: usize, block: usize) -> bool
     requires { (order < 6) × Block (word w) order block }
     ensures { result ≡ eqb (held_in (word w) order block) 0 }

@@ -7,7 +7,7 @@ ghost use Rattle.rules.specs.Words.{tree_count, configured, locals_of, slot, loc
 
 use rules::Header;
 
-// A byte as a number.
+// A byte as a number: `usize::from`, by the name that test_accept calls it by.
 pub fn wide(x: u8) -> usize
     ensures { (result ≡ x) × (result < 256) }
 {

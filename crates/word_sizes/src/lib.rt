@@ -11,7 +11,7 @@ pub fn size(order: usize) -> usize
     1usize << order
 }
 
-// One number less another, but no less than 0.
+// One number less another, but no less than 0: `saturating_sub`, by the name that docs/CLAIMS.md has for it; get_reserved and the statistics call it.
 pub fn less(a: usize, b: usize) -> usize
     ensures { (result ≡ a - b) × (result ≤ a) }
 {
