@@ -98,6 +98,7 @@ pub fn search_and_reserve(
 }
 
 // The stealing search: walk 0 to n, with a list of 8, plain ratings.
+#[tactic(auto, unfolding(rules_calls::specs::Search::search_and_steal))]
 pub fn search_and_steal(
     a: Ask,
     table: &[u32; 64],

@@ -63,6 +63,7 @@ fn reserve_or_steal(
 }
 
 // Whether a walk steals what it finds, and reserves nothing.
+#[tactic(auto, unfolding(rules_calls::specs::Walking::access, rules::specs::Base::ifte))]
 fn steals(walk: Walk) -> bool
     ensures { (c : Config) (q : Request) (j t : ℕ) (s : State) → access c q walk j t s
         ≡ ifte result (λ _. steal_global c q None t s) (λ _. reserve_or_steal c q j t s) }
@@ -71,6 +72,7 @@ fn steals(walk: Walk) -> bool
 }
 
 // A tree that a walk has found is tried.
+#[tactic(auto, unfolding(rules::specs::Base::ifte))]
 pub fn access(
     a: Ask,
     table: &[u32; 64],
