@@ -43,6 +43,7 @@ fn search_all(
 }
 
 // Below order 9 the near walk: 1 to near, with a list of 3.
+#[tactic(auto, using(std::proofs::lemmas::Bool::Decides::nat_tests), unfolding(crate::specs::Near::near_first, rules::specs::Base::ifte))]
 fn search_near(
     a: Ask,
     table: &[u32; 64],

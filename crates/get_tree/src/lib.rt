@@ -14,6 +14,7 @@ use rules_calls::{Counts, Routed, Walk};
 use test_fits::Ask;
 
 // Steal globally, from the entry of tree t.
+#[tactic(auto, unfolding(rules_calls::specs::Walking::steal_global, rules_calls::specs::State::on_took, rules_calls::specs::State::with_trees))]
 pub fn steal_global(
     a: Ask,
     table: &[u32; 64],
@@ -36,6 +37,7 @@ pub fn steal_global(
 }
 
 // Reserve or steal tree t for the local j.
+#[tactic(auto, unfolding(rules_calls::specs::Walking::reserve_or_steal, rules_calls::specs::State::on_taken, rules_calls::specs::State::with_trees))]
 fn reserve_or_steal(
     a: Ask,
     table: &[u32; 64],
