@@ -21,6 +21,7 @@ pub struct Stand {
 }
 
 // A list of the best m, tree t offered at its rating: Invalid enters no list.
+#[tactic(auto, using(std::proofs::lemmas::Bool::Decides::nat_tests), unfolding(crate::specs::Walked::enlisted, rules::specs::Base::ifte))]
 fn offer(best: [u64; 8], m: usize, r: usize, free: usize, t: usize) -> [u64; 8]
     requires { (m ≤ 8) × ((r ≤ 258) × (t < 2 ^ 32)) }
     ensures { list_of m result ≡ enlisted m t r (eqb free 2048) (list_of m best) }
