@@ -13,6 +13,7 @@ use rules_calls::{Counts, Got, Routed};
 use test_fits::Ask;
 
 // n / m, rounded down, times i.
+#[tactic(auto, using(crate::specs::Start::start_fits))]
 fn portion(n: usize, m: usize, i: usize) -> usize
     requires { (0 < m) × ((n ≤ 1024) × (i < 2 ^ 32)) }
     ensures { (result ≡ n / m * i) × (result < 2 ^ 44) }
@@ -36,6 +37,7 @@ fn start_tree(a: Ask, i: usize) -> usize
 }
 
 // The start of a search after the own local: the tree of a present reservation that failed, or else the start as given.
+#[tactic(auto, unfolding(crate::specs::Start::start_after))]
 fn start_after(got: Got, start: usize) -> usize
     ensures { result ≡ start_after start got }
 {
