@@ -19,6 +19,7 @@ pub fn refused(x: Refusal) -> Reply
 }
 
 // How a get's routes are answered: Done, Memory where every one came back empty, Stuck.
+#[tactic(auto, unfolding(rules_calls::specs::Calls::close, rules_calls::specs::Calls::tell_get, rules_calls::specs::Calls::number_of))]
 pub fn reply(r: Routed) -> Reply
     ensures { (t l b : List ℕ) → told_get result t l b ≡ close (ended r t l b) }
 {

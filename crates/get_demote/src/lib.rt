@@ -27,21 +27,17 @@ fn demote_to(
         ≡ demote_to (config a.h table.now) a.q name l a.q.local (st trees.old locals.old bits.old counts.looks counts.tries))
         × ((result.counts.looks ≤ counts.looks) × (result.counts.tries ≤ counts.tries + 1)) }
 {
-    match a.q.local {
+    let returned = match a.q.local {
         Some(i) => {
             let old = local_words::swap(locals, word_header::slot(a.h, a.q.class, i), l);
-            if !tree_returns::unreserve_local(a.h, table, trees, a.q.class, old) {
-                return get_ends::stuck(counts);
-            }
-            get_steps::ask_lower(a, table, trees, bits, name, l.row, a.q.class, counts)
+            tree_returns::unreserve_local(a.h, table, trees, a.q.class, old)
         }
-        None => {
-            if !tree_returns::unreserve(a.h, table, trees, l.row / 32, a.q.class, l.free) {
-                return get_ends::stuck(counts);
-            }
-            get_steps::ask_lower(a, table, trees, bits, name, l.row, a.q.class, counts)
-        }
+        None => tree_returns::unreserve(a.h, table, trees, l.row / 32, a.q.class, l.free),
+    };
+    if !returned {
+        return get_ends::stuck(counts);
     }
+    get_steps::ask_lower(a, table, trees, bits, name, l.row, a.q.class, counts)
 }
 
 // Demote: over the other classes of kind Demote. The first reservation with enough is reduced, and leaves its local.

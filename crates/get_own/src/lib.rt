@@ -66,6 +66,7 @@ fn top_up(
 }
 
 // The own local, if one is given, with one sync.
+#[tactic(auto, unfolding(rules_calls::specs::FromLocals::own_local, rules_calls::specs::State::index_of))]
 pub fn own_local(
     a: Ask,
     table: &[u32; 64],

@@ -15,10 +15,10 @@ reserving c q (Some i) = ltb (locals_of c.places q.class) (trees_of c)
 reserving c q None = false
 
 -- as the code asks it
-pub reserving-asked : (c : Config) (q : Request) (g : Option ℕ) → reserving c q g ≡ both (is_some g) (ltb (locals_of c.places q.class) (trees_of c))
+pub reserving_asked : (c : Config) (q : Request) (g : Option ℕ) → reserving c q g ≡ both (is_some g) (ltb (locals_of c.places q.class) (trees_of c))
 unfolding reserving
-reserving-asked c q (Some i) = refl
-reserving-asked c q None = refl
+reserving_asked c q (Some i) = refl
+reserving_asked c q None = refl
 
 -- with no index the start tree is 0
 none : (b : Bool) (x : ℕ) → 0 ≡ pick b 0 (x * 0)

@@ -13,6 +13,7 @@ use rules_calls::{Counts, Got, Routed};
 use test_fits::Ask;
 
 // n / m, rounded down, times i.
+#[tactic(auto, using(crate::specs::Start::start_fits))]
 fn portion(n: usize, m: usize, i: usize) -> usize
     requires { (0 < m) × ((n ≤ 1024) × (i < 2 ^ 32)) }
     ensures { (result ≡ n / m * i) × (result < 2 ^ 44) }
@@ -24,6 +25,7 @@ fn portion(n: usize, m: usize, i: usize) -> usize
 }
 
 // The start tree of the local i: (n / locals, rounded down) times the local, or 0 with no locals.
+#[tactic(auto, unfolding(rules_calls::specs::Get::start_tree))]
 fn start_tree(a: Ask, i: usize) -> usize
     requires { i < 2 ^ 32 }
     ensures { ((pairs : List ℕ) → result ≡ start_tree (config a.h pairs) a.q (Some i)) × (result < 2 ^ 44) }
@@ -36,6 +38,7 @@ fn start_tree(a: Ask, i: usize) -> usize
 }
 
 // The start of a search after the own local: the tree of a present reservation that failed, or else the start as given.
+#[tactic(auto, unfolding(crate::specs::Start::start_after))]
 fn start_after(got: Got, start: usize) -> usize
     ensures { result ≡ start_after start got }
 {
@@ -46,6 +49,7 @@ fn start_after(got: Got, start: usize) -> usize
 }
 
 // Whether the own local is asked and the search reserves: a local is given, and its class has fewer locals than there are trees.
+#[tactic(auto, using(crate::specs::Turn::reserving_asked))]
 fn is_reserving(a: Ask) -> bool
     ensures { (pairs : List ℕ) → result ≡ reserving (config a.h pairs) a.q a.q.local }
 {

@@ -35,6 +35,7 @@ pub fn put_to(
 }
 
 // A put whose arguments fit: the lower first, then the local or the entry.
+#[tactic(auto, unfolding(rules_calls::specs::Calls::on_given, rules_calls::specs::Calls::outcome_of, rules_calls::specs::Calls::number_of, rules_calls::specs::State::with_bits))]
 pub fn put_body(
     a: Ask,
     table: &[u32; 64],

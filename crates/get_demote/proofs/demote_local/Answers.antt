@@ -14,9 +14,6 @@ returns-in_default c = (
   rw c.missed.ensures.1 (omega arith),
 )
 
-pub demote_to-requires : goal.demote_to-requires
-demote_to-requires c = (omega (arith, c.clear-l.ensures.1), c.requires)
-
 pub returns : goal.returns
 returns c = (
   leaves _ _ _ _

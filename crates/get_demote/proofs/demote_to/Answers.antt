@@ -3,51 +3,55 @@ use Rattle.test_fits.specs.Fits.{given-small}
 use native.Mathlib.Omega.{arith}
 use borrow.Author.Rules.{rules}
 use Rattle.get_demote.specs.Demoted.{displaced, displaced-stuck, itself, itself-stuck}
+use mathlib.Core.Path.{sym, ◌∙◌}
+use Rattle.get_demote.proofs.demote_to.Goals.{in-Some, in-None}
 use Rattle.get_demote.proofs.demote_to.Goals as goal
 
 pub slot-requires : goal.slot-requires
 slot-requires c = (search rules, given-small _ _ c.in-Some.is c.args.a.fits.index)
 
-pub returns-then-not-unreserve_local : goal.returns-then-not-unreserve_local
-returns-then-not-unreserve_local c = (
-  displaced-stuck _ _ _ _ _
-      c.in-Some.is
-      c.slot.ensures
-      c.swap-old.ensures.0
-      c.unreserve_local.ensures
-      c.if-not-unreserve_local.true
-      (c.stuck.ensures.0 _ _ _),
+pub returns-then-not-returned : goal.returns-then-not-returned
+returns-then-not-returned c = (
+  elim c.match-a.branch [
+    | in-Some w ↦ rw (w.trees-is, w.locals-is)
+        (displaced-stuck _ _ _ _ _
+        w.in-Some.is
+        w.slot.ensures
+        w.swap-old.ensures.0
+        w.unreserve_local-returned.ensures
+        (sym w.returned-is ∙ c.if-not-returned.true)
+        (c.stuck.ensures.0 _ _ _))
+    | in-None w ↦ rw (w.trees-is, w.locals-is)
+        (itself-stuck _ _ _ _ _
+        w.in-None.is
+        w.unreserve-returned.ensures
+        (sym w.returned-is ∙ c.if-not-returned.true)
+        (c.stuck.ensures.0 _ _ _))
+  ],
   rw c.stuck.ensures.1 (omega arith),
 )
 
-pub returns-then-not-unreserve : goal.returns-then-not-unreserve
-returns-then-not-unreserve c = (
-  itself-stuck _ _ _ _ _
-      c.in-None.is
-      c.unreserve.ensures
-      c.if-not-unreserve.true
-      (c.stuck-then-not-unreserve.ensures.0 _ _ _),
-  rw c.stuck-then-not-unreserve.ensures.1 (omega arith),
-)
-
-pub returns-else-not-unreserve_local : goal.returns-else-not-unreserve_local
-returns-else-not-unreserve_local c = (
-  displaced _ _ _ _ _
-      c.in-Some.is
-      c.slot.ensures
-      c.swap-old.ensures.0
-      c.unreserve_local.ensures
-      c.if-not-unreserve_local.false
-      (c.ask_lower.ensures.0 _),
+pub returns : goal.returns
+returns c = (
+  elim c.match-a.branch [
+    | in-Some w ↦
+        let h = rw w.trees-is at c.ask_lower.ensures.0 in
+        rw w.locals-is
+        (displaced _ _ _ _ _
+        w.in-Some.is
+        w.slot.ensures
+        w.swap-old.ensures.0
+        w.unreserve_local-returned.ensures
+        (sym w.returned-is ∙ c.if-not-returned.false)
+        (h _))
+    | in-None w ↦
+        let h = rw w.trees-is at c.ask_lower.ensures.0 in
+        rw w.locals-is
+        (itself _ _ _ _ _
+        w.in-None.is
+        w.unreserve-returned.ensures
+        (sym w.returned-is ∙ c.if-not-returned.false)
+        (h _))
+  ],
   c.ask_lower.ensures.1,
-)
-
-pub returns-else-not-unreserve : goal.returns-else-not-unreserve
-returns-else-not-unreserve c = (
-  itself _ _ _ _ _
-      c.in-None.is
-      c.unreserve.ensures
-      c.if-not-unreserve.false
-      (c.ask_lower-in-None.ensures.0 _),
-  c.ask_lower-in-None.ensures.1,
 )

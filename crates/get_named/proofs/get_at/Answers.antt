@@ -4,9 +4,6 @@ use mathlib.Core.Path.{refl, sym, ◌∙◌}
 use native.Mathlib.Omega.{arith}
 use Rattle.get_named.proofs.get_at.Goals as goal
 
-pub own_local-own-requires : goal.own_local-own-requires
-own_local-own-requires c = (c.args.a.fits.index, omega arith)
-
 pub returns-then-ends : goal.returns-then-ends
 returns-then-ends c = (
   at_own _ _ _ _
@@ -14,9 +11,6 @@ returns-then-ends c = (
       (sym c.ends.ensures ∙ c.if-ends.true),
   omega (arith, c.own_local-own.ensures.1),
 )
-
-pub steal_global-r-requires : goal.steal_global-r-requires
-steal_global-r-requires c = (omega arith, omega (arith, c.own_local-own.ensures.1, c.requires))
 
 pub returns-then-ends-2 : goal.returns-then-ends-2
 returns-then-ends-2 c = (
@@ -28,9 +22,6 @@ returns-then-ends-2 c = (
       (sym c.ends-2.ensures ∙ c.if-ends-2.true),
   omega (arith, c.own_local-own.ensures.1, c.steal_global-r.ensures.1),
 )
-
-pub last_routes-requires : goal.last_routes-requires
-last_routes-requires c = omega (arith, c.own_local-own.ensures.1, c.steal_global-r.ensures.1, c.requires)
 
 pub returns : goal.returns
 returns c = (

@@ -2,7 +2,6 @@
 use Rattle.get_routes.specs.Turns.{asked-ends, asked-last}
 use Rattle.rules_calls.specs.Get.{routes}
 use mathlib.Core.Path.{sym, ◌∙◌}
-use native.Mathlib.Omega.{arith}
 use Rattle.get_routes.proofs.routes.Goals as goal
 
 pub returns-in-Some : goal.returns-in-Some
@@ -15,9 +14,6 @@ returns-then-ends c =
     c.in_default.is
     c.search_trees-r.ensures.0
     (sym c.ends.ensures ∙ c.if-ends.true)
-
-pub last_routes-requires : goal.last_routes-requires
-last_routes-requires c = omega (arith, c.search_trees-r.ensures.1)
 
 pub returns : goal.returns
 returns c =

@@ -5,12 +5,6 @@ use Rattle.get_routes.specs.Start.{start_small}
 use native.Mathlib.Omega.{arith}
 use Rattle.get_routes.proofs.search_trees.Goals as goal
 
-pub start_tree-start-requires : goal.start_tree-start-requires
-start_tree-start-requires c = rw c.index_of-i.ensures c.args.a.fits.index
-
-pub search_and_steal-requires : goal.search_and_steal-requires
-search_and_steal-requires c = (c.start_tree-start.ensures.1, omega arith)
-
 pub returns-then-not-is_reserving : goal.returns-then-not-is_reserving
 returns-then-not-is_reserving c = (
   turn-steals _ _ _ _
@@ -21,9 +15,6 @@ returns-then-not-is_reserving c = (
       c.search_and_steal.ensures.0,
   omega (arith, c.search_and_steal.ensures.1),
 )
-
-pub slot-j-requires : goal.slot-j-requires
-slot-j-requires c = (omega (arith, c.args.a.fits.class), rw c.index_of-i.ensures c.args.a.fits.index)
 
 pub returns-then-ends : goal.returns-then-ends
 returns-then-ends c = (
