@@ -33,6 +33,10 @@ Few r = r.number ≤ 11
 abbrev Plain : Told → Type 0
 Plain r = (r.number ≡ 0) ⊎ ((r.number ≤ 11) × ((r.frame ≡ 0) × (r.class ≡ 0)))
 
+-- and of statistics that are refused zeros
+abbrev Zeros : Report → Type 0
+Zeros r = (r.number ≡ 0) ⊎ ((r.number ≤ 11) × ((r.free ≡ 0) × (r.trees ≡ 0)))
+
 close-plain : (w : Way) → Plain (close w)
 unfolding close
 close-plain (out (Got.Done f k) s) = inl refl
