@@ -16,13 +16,7 @@ use rules::Header;
 use rules_calls::Refusal;
 
 // The figures of the store.
-fn figures(
-    h: Header,
-    table: &[u32; 64],
-    trees: &[u32],
-    locals: &[u64],
-    bits: &[u64],
-) {
+fn figures(h: Header, table: &[u32; 64], trees: &[u32], locals: &[u64], bits: &[u64]) {
     let report = stats_lent::report(h, table, trees, locals, bits, 8);
     boot_says::figures(h.frames, report);
 }
@@ -43,8 +37,8 @@ fn take_all(
     bits: &mut [u64],
 ) -> [Held; 3] {
     let mut held = [boot_shows::nothing(); 3];
-    for (n, p) in PATTERNS.into_iter().enumerate() {
-        held[n] = boot_shows::show(h, table, trees, locals, bits, p);
+    for (n, p) in PATTERNS.iter().enumerate() {
+        held[n] = boot_shows::show(h, table, trees, locals, bits, *p);
     }
     held
 }
@@ -58,8 +52,8 @@ fn give_all(
     bits: &mut [u64],
     held: [Held; 3],
 ) {
-    for (n, p) in PATTERNS.into_iter().enumerate() {
-        boot_shows::give(h, table, trees, locals, bits, p, held[n]);
+    for (n, p) in PATTERNS.iter().enumerate() {
+        boot_shows::give(h, table, trees, locals, bits, *p, held[n]);
     }
 }
 

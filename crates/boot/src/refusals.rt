@@ -74,7 +74,14 @@ fn answer(
     match x {
         Refusal::Broken => short_drain(h, table, trees, locals, bits),
         // with the other class as default the table is not accepted
-        Refusal::Config => start::start(Header { default: 0, ..h }, table, trees, locals, bits, true),
+        Refusal::Config => start::start(
+            Header { default: 0, ..h },
+            table,
+            trees,
+            locals,
+            bits,
+            true,
+        ),
         Refusal::NotHeld => put::put(h, table, trees, locals, bits, 1, q),
         Refusal::Rows => {
             stats_lent::report(h, table, trees, locals, bits, 7)?;

@@ -44,11 +44,7 @@ fn action(x: Refusal) -> &'static [u8] {
 fn is_own_error(x: Refusal) -> bool {
     matches!(
         x,
-        Refusal::Order
-            | Refusal::Bounds
-            | Refusal::Misaligned
-            | Refusal::Class
-            | Refusal::Local
+        Refusal::Order | Refusal::Bounds | Refusal::Misaligned | Refusal::Class | Refusal::Local
     )
 }
 
@@ -59,7 +55,9 @@ fn ended(answer: Result<(), Refusal>) {
         say(b"\n    ");
         say(action(x));
         if is_own_error(x) {
-            say(b": the loader's own error; it gives back what it took and shows the built-in pattern");
+            say(
+                b": the loader's own error; it gives back what it took and shows the built-in pattern",
+            );
         }
     }
     say(b"\n");

@@ -50,7 +50,12 @@ fn drain_class(
 }
 
 // A drain: the classes in turn. Done, or Stuck as the step before left the words; whatever the bitmap is, it stays.
-pub fn drain_body(h: Header, table: &[u32; 64], trees: &mut [u32], locals: &mut [u64]) -> Result<(), Refusal>
+pub fn drain_body(
+    h: Header,
+    table: &[u32; 64],
+    trees: &mut [u32],
+    locals: &mut [u64],
+) -> Result<(), Refusal>
     requires { h.default < 8 }
     ensures { (b : List ℕ) → told result trees.new locals.new b
         ≡ close_drain (drain_classes 8 (config h table.now) 0 (fresh trees.old locals.old b)) }

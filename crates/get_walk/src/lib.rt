@@ -33,14 +33,7 @@ fn offer(best: [u64; 8], m: usize, r: usize, free: usize, t: usize) -> [u64; 8]
 }
 
 // A walk from where it stands on: as far as the next tree that is tried at once (Match 255), or to its last step.
-pub fn walk_on(
-    q: Request,
-    table: &[u32; 64],
-    trees: &[u32],
-    w: Walk,
-    p: Path,
-    from: Stand,
-) -> Stand
+pub fn walk_on(q: Request, table: &[u32; 64], trees: &[u32], w: Walk, p: Path, from: Stand) -> Stand
     requires { (q.order ≤ 11) × ((q.class < 8) × Room (p.last - from.at) from.looks) }
     ensures { WalkedOn table.now q w p trees.now from.at (list_of p.m from.best) from.looks result }
 {

@@ -5,7 +5,6 @@ ghost use Rattle.std.specs.Prelude.{◌≡◌, ◌≤◌};
 ghost use Rattle.rules.specs.Base.{out};
 ghost use Rattle.rules.specs.Lower.{has_tree, lower_find, lower_get, lower_put};
 
-
 // Whether the bitmap has the words of a tree.
 #[tactic(auto, unfolding(rules::specs::Lower::has_tree))]
 fn has_tree(words: &[u64], tree: usize) -> bool
@@ -22,8 +21,7 @@ fn find_block(words: &[u64], row: usize, order: usize, name: Option<usize>) -> O
 {
     match name {
         None if has_tree(words, row / 32) => lower_seeks::find(words, row, order),
-        Some(f)
-            if has_tree(words, f / 2048) && lower_blocks::is_free(words, order, f >> order) => {
+        Some(f) if has_tree(words, f / 2048) && lower_blocks::is_free(words, order, f >> order) => {
             Some(f >> order)
         }
         _ => None,

@@ -6,7 +6,6 @@ ghost use Rattle.law_rules.specs.Block.{Block};
 ghost use Rattle.law_rules.specs.Seek.{seek_in};
 ghost use Rattle.law_rules.specs.WordSeek.{word, word_seek};
 
-
 // The first wholly free block of the order `want` in the block `index` of the order `order` of a word, sought in its left half, then in its right half; 64 where there is none: with a `Found` in its place, which was tried and proved, a get of the orders 0 to 5 took a quarter longer.
 fn seek_word(w: u64, order: usize, want: usize, index: usize) -> usize
     requires { (want ≤ order) × ((want < 6) × ((order ≤ 6) × Block (word w) order index)) }

@@ -6,7 +6,6 @@ ghost use Rattle.rules.specs.Lower.{search_in};
 ghost use Rattle.law_rules.specs.Block.{Block};
 ghost use Rattle.law_rules.specs.Seek.{seek_in, passed_by};
 
-
 // Whether the search upward from a row passes over a block: all of it lies before the row, or every frame of it is held.
 #[tactic(auto, unfolding(law_rules::specs::Seek::passed_by))]
 fn passed(words: &[u64], order: usize, index: usize, row: usize) -> bool

@@ -162,12 +162,7 @@ fn after_read(rt: &impl Input, buf: &mut [u8], left: usize, r: Run) -> Option<Ru
 }
 
 // More input, once the answers are written; none where all is done.
-pub fn more(
-    rt: &impl Input,
-    buf: &mut [u8; 65536],
-    r: Run,
-    out: &mut [u8; 262144],
-) -> Option<Run> {
+pub fn more(rt: &impl Input, buf: &mut [u8; 65536], r: Run, out: &mut [u8; 262144]) -> Option<Run> {
     text_prints::front(Program::Runner, out, r.at);
     if r.ended {
         return None;

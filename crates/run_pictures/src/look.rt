@@ -114,13 +114,7 @@ fn total_line(number: usize, t: Totals, frames: usize, trees: usize) {
 }
 
 // The totals of the words.
-fn totals(
-    h: Header,
-    table: &[u32; 64],
-    trees: &[u32],
-    locals: &[u64],
-    bits: &[u64],
-) {
+fn totals(h: Header, table: &[u32; 64], trees: &[u32], locals: &[u64], bits: &[u64]) {
     let none = Totals { free: 0, trees: 0 };
     let (number, t) = match stats_lent::report(h, table, trees, locals, bits, 8) {
         Ok(told) => (0, told.totals),
@@ -148,13 +142,7 @@ fn holders(h: Header, locals: &[u64]) {
 }
 
 // The whole picture.
-pub fn look(
-    h: Header,
-    table: &[u32; 64],
-    trees: &[u32],
-    locals: &[u64],
-    bits: &[u64],
-) {
+pub fn look(h: Header, table: &[u32; 64], trees: &[u32], locals: &[u64], bits: &[u64]) {
     heading(h);
     map(trees);
     holders(h, locals);

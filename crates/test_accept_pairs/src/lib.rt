@@ -1,17 +1,5 @@
 // What the acceptance test asks of one pair of the policy table: its form, and the rules of good pairs.
-#![tactic(
-    auto,
-    using(std::proofs::lemmas::Bool::Decides::nat_tests, law_rules::specs::All::all_loop),
-    unfolding(
-        rules::specs::Policy::good,
-        rules::specs::Policy::pair_formed,
-        rules::specs::Policy::kind_of,
-        rules::specs::Policy::cut_of,
-        law_rules::specs::Rows::leads_back,
-        law_rules::specs::Rows::covers,
-        law_rules::specs::Rows::demote_covers,
-    )
-)]
+#![tactic(auto, using(std::proofs::lemmas::Bool::Decides::nat_tests, law_rules::specs::All::all_loop), unfolding(rules::specs::Policy::good, rules::specs::Policy::pair_formed, rules::specs::Policy::kind_of, rules::specs::Policy::cut_of, law_rules::specs::Rows::leads_back, law_rules::specs::Rows::covers, law_rules::specs::Rows::demote_covers,))]
 
 ghost use Rattle.std.specs.Prelude.{◌≡◌, ◌<◌};
 ghost use Rattle.rules.specs.Words.{config};

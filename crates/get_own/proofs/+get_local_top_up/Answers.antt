@@ -61,7 +61,7 @@ pub top_up-returns : goal.top_up-returns
 unfolding on_topped
 top_up-returns t c = (
   elim c.else-syncs-gt0.branch [
-    top_up-else-syncs-gt0-via-then-syncs-gt0+else-topped w ↦ rw (
+    | top_up-else-syncs-gt0-via-then-syncs-gt0+else-topped w ↦ rw (
       w.trees-is,
       w.locals-is,
       top_up-more c.args.syncs _ _ _ _ _ _ _ (λ e. omega (arith, e, w.if-syncs-gt0.true)),
