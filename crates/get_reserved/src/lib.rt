@@ -26,6 +26,7 @@ fn reservation(t: usize, free: usize) -> Local
 }
 
 // A route that ends so if a reservation was returned, and else is stuck.
+#[tactic(auto, unfolding(rules::specs::Base::ifte))]
 fn or_stuck(returned: bool, r: Routed) -> Routed
     ensures { ((t l b : List ℕ) → ended result t l b ≡ ifte returned (λ _. ended r t l b) (λ _. stuck (st t l b r.counts.looks r.counts.tries)))
         × (result.counts ≡ r.counts) }

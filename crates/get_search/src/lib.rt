@@ -43,6 +43,7 @@ fn search_all(
 }
 
 // Below order 9 the near walk: 1 to near, with a list of 3.
+#[tactic(auto, using(std::proofs::lemmas::Bool::Decides::nat_tests), unfolding(crate::specs::Near::near_first, rules::specs::Base::ifte))]
 fn search_near(
     a: Ask,
     table: &[u32; 64],
@@ -98,6 +99,7 @@ pub fn search_and_reserve(
 }
 
 // The stealing search: walk 0 to n, with a list of 8, plain ratings.
+#[tactic(auto, unfolding(rules_calls::specs::Search::search_and_steal))]
 pub fn search_and_steal(
     a: Ask,
     table: &[u32; 64],

@@ -14,6 +14,7 @@ use rules_calls::{Counts, Routed, Walk};
 use test_fits::Ask;
 
 // Steal globally, from the entry of tree t.
+#[tactic(auto, unfolding(rules_calls::specs::Walking::steal_global, rules_calls::specs::State::on_took, rules_calls::specs::State::with_trees))]
 pub fn steal_global(
     a: Ask,
     table: &[u32; 64],
@@ -36,6 +37,7 @@ pub fn steal_global(
 }
 
 // Reserve or steal tree t for the local j.
+#[tactic(auto, unfolding(rules_calls::specs::Walking::reserve_or_steal, rules_calls::specs::State::on_taken, rules_calls::specs::State::with_trees))]
 fn reserve_or_steal(
     a: Ask,
     table: &[u32; 64],
@@ -63,6 +65,7 @@ fn reserve_or_steal(
 }
 
 // Whether a walk steals what it finds, and reserves nothing.
+#[tactic(auto, unfolding(rules_calls::specs::Walking::access, rules::specs::Base::ifte))]
 fn steals(walk: Walk) -> bool
     ensures { (c : Config) (q : Request) (j t : ℕ) (s : State) → access c q walk j t s
         ≡ ifte result (λ _. steal_global c q None t s) (λ _. reserve_or_steal c q j t s) }
@@ -71,6 +74,7 @@ fn steals(walk: Walk) -> bool
 }
 
 // A tree that a walk has found is tried.
+#[tactic(auto, unfolding(rules::specs::Base::ifte))]
 pub fn access(
     a: Ask,
     table: &[u32; 64],

@@ -30,8 +30,7 @@ pub fn try_list(
         × ((result.counts.looks ≤ counts.looks) × (result.counts.tries ≤ counts.tries + m)) }
 {
     let mut so_far = counts;
-    for k in 0..m {
-        let x = best[k];
+    for &x in &best[..m] {
         if x == 0 {
             return get_ends::missed(so_far);
         }

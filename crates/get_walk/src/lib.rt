@@ -21,6 +21,7 @@ pub struct Stand {
 }
 
 // A list of the best m, tree t offered at its rating: Invalid enters no list.
+#[tactic(auto, using(std::proofs::lemmas::Bool::Decides::nat_tests), unfolding(crate::specs::Walked::enlisted, rules::specs::Base::ifte))]
 fn offer(best: [u64; 8], m: usize, r: usize, free: usize, t: usize) -> [u64; 8]
     requires { (m ≤ 8) × ((r ≤ 258) × (t < 2 ^ 32)) }
     ensures { list_of m result ≡ enlisted m t r (eqb free 2048) (list_of m best) }
@@ -44,11 +45,9 @@ pub fn walk_on(a: Ask, table: &[u32; 64], trees: &[u32], w: Walk, p: Path, from:
         if r == 258 {
             return s;
         }
-        s = Stand {
-            at: k + 1,
-            best: offer(s.best, p.m, r, e.free, t),
-            looks: s.looks + 1,
-        };
+        s.at = k + 1;
+        s.best = offer(s.best, p.m, r, e.free, t);
+        s.looks += 1;
     }
     s
 }

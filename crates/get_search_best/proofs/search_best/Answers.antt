@@ -16,9 +16,6 @@ loop-s-init c =
       high = v.0.high;
       seen_most = v.0.most;
       asked-most = search rules;
-      len_t = search rules;
-      len-l = search rules;
-      len-b = search rules;
       walked = rw (← v.0.same _ _ _ _ _, list-empty);
       next = v.1 _;
     }
@@ -50,9 +47,6 @@ loop-s-preserved c =
       high = omega (arith, l.low, l.high, u.0.high, t);
       seen_most = omega (arith, l.low, l.seen_most, v.1, u.0.low, u.0.most);
       asked-most = omega (arith, l.low, l.asked-most, v.1, u.0.low);
-      len_t = omega (arith, l.len_t, c.access-r.auto);
-      len-l = omega (arith, l.len-l, c.access-r.auto);
-      len-b = omega (arith, l.len-b, c.access-r.auto);
       walked =
           sym (u.0.same _ _ _ _ _)
           ∙ (sym (walk-goes _ _ _ _ _ _ _ _ _ _ _ _ _ _ _ _ _ _ t c.walk_tree-t.ensures.0 (l.next t) v.0 e) ∙ l.walked);

@@ -3,7 +3,6 @@
 use mathlib.Core.Path.{◌≡◌}
 use Prim.Native.Nat.{◌-◌, ◌+◌, ◌<◌, ◌≤◌}
 use mathlib.Core.List.{[]}
-use lib.ListN.{length}
 use Rattle.rules.specs.Words.{config, entry_at}
 use Rattle.rules_calls.specs.State.{st}
 use Rattle.rules_calls.specs.Walking.{walk_tree, rate, walk}
@@ -17,9 +16,6 @@ invariant-loop-s l =
       high : l.s.at ≤ l.p.first + (l.p.last - l.p.first);
       seen_most : l.s.looks ≤ l.fn.counts.looks + (l.s.at - l.p.first);
       asked-most : l.tries ≤ l.fn.counts.tries + (l.s.at - l.p.first);
-      len_t : length l.trees ≡ length l.initial.trees;
-      len-l : length l.locals ≡ length l.initial.locals;
-      len-b : length l.bits ≡ length l.initial.bits;
       walked : walk (config l.a.h l.table) l.a.q l.w l.j l.p.m l.p.n l.p.start l.s.at l.p.last (list_of l.p.m l.s.best) (st l.trees l.locals l.bits l.s.looks l.tries)
           ≡ walk (config l.a.h l.table) l.a.q l.w l.j l.p.m l.p.n l.p.start l.p.first l.p.last [] (st l.initial.trees l.initial.locals l.initial.bits l.fn.counts.looks l.fn.counts.tries);
       next : l.s.at < l.p.last → rate (config l.a.h l.table) l.a.q l.w (entry_at l.trees (walk_tree l.p.n l.p.start l.s.at)) ≡ 258;

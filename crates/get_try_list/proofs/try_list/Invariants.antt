@@ -8,16 +8,12 @@ use Rattle.rules_calls.specs.Walking.{try_list}
 use Rattle.get_best.specs.List.{list_of, list_from}
 use Rattle.get_try_list.proofs.try_list.Given as goal
 
-abbrev pub invariant-loop-k : goal.invariant-loop-k
-invariant-loop-k l =
+abbrev pub invariant-loop-x : goal.invariant-loop-x
+invariant-loop-x l =
     record {
-      most : l.k ≤ l.m;
       seen_most : l.so_far.looks ≤ l.fn.counts.looks;
-      asked-most : l.so_far.tries ≤ l.fn.counts.tries + l.k;
-      places : l.m ≤ length l.best;
-      len_t : length l.trees ≡ length l.initial.trees;
-      len-l : length l.locals ≡ length l.initial.locals;
-      len-b : length l.bits ≡ length l.initial.bits;
-      same-list : try_list (config l.a.h l.table) l.a.q l.w l.j (list_from l.k l.m l.best) (st l.trees l.locals l.bits l.so_far.looks l.so_far.tries)
-          ≡ try_list (config l.a.h l.table) l.a.q l.w l.j (list_of l.m l.best) (st l.initial.trees l.initial.locals l.initial.bits l.fn.counts.looks l.fn.counts.tries);
+      asked-most : l.so_far.tries ≤ l.fn.counts.tries + l.x-index;
+      long : length l.x-items ≡ l.m;
+      same-list : try_list (config l.a.h l.table) l.a.q l.w l.j (list_from l.x-index l.m l.x-items) (st l.trees l.locals l.bits l.so_far.looks l.so_far.tries)
+          ≡ try_list (config l.a.h l.table) l.a.q l.w l.j (list_of l.m l.fn.best) (st l.initial.trees l.initial.locals l.initial.bits l.fn.counts.looks l.fn.counts.tries);
     }

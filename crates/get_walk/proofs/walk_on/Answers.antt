@@ -5,18 +5,6 @@ use Rattle.rules_calls.specs.State.{st, with_look}
 use Rattle.get_walk.specs.Walked.{walk-passed}
 use Rattle.get_walk.proofs.walk_on.Goals as goal
 
-pub loop-k-init : goal.loop-k-init
-loop-k-init c = record { here = refl; walked = record { same = λ h j ls bs tries. refl; low = omega arith; high = omega arith; most = omega arith } }
-
-pub returns-then-r-eq258 : goal.returns-then-r-eq258
-returns-then-r-eq258 c = (
-  c.loop-k.invariant.walked,
-  λ h lt. rw (c.loop-k.invariant.here, ← c.walk_tree-t.ensures.0, ← c.load-e.ensures.0, ← c.rate-r.ensures.0 h) c.if-r-eq258.true,
-)
-
-pub returns : goal.returns
-returns c = (c.loop-k.invariant.walked, λ h lt. absurd (omega (arith, lt, c.loop-k-test.false, c.loop-k.invariant.here)))
-
 pub loop-k-preserved : goal.loop-k-preserved
 unfolding with_look
 loop-k-preserved c =
@@ -29,7 +17,7 @@ loop-k-preserved c =
       here = refl;
       walked = record {
         same = λ h j ls bs tries.
-            rw (walk-passed _ _ _ j _ _ _ _ _ _ (st _ ls bs _ tries) _ _ _ t p d (v h) c.if-r-eq258.false, ← c.offer.ensures) at (l.same h j ls bs tries);
+            rw (walk-passed _ _ _ j _ _ _ _ _ _ (st _ ls bs _ tries) _ _ _ t p d (v h) c.if-r-eq258.false, ← c.offer-s.ensures) at (l.same h j ls bs tries);
         low = omega (arith, l.low);
         high = omega (arith, l.high, t);
         most = omega (arith, l.most, l.low);
