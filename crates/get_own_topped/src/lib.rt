@@ -27,14 +27,12 @@ pub fn topped(
     if n < free {
         return false;
     }
-    match tree_words::sync(trees, row / 32, n - free) {
-        Some(x) => {
-            if local_frames::put(locals, j, row / 32, x as usize) {
-                return true;
-            }
-            tree_words::put(h, table, trees, row / 32, x as usize);
-            false
-        }
-        None => false,
+    let Some(x) = tree_words::sync(trees, row / 32, n - free) else {
+        return false;
+    };
+    let taken = local_frames::put(locals, j, row / 32, x as usize);
+    if !taken {
+        tree_words::put(h, table, trees, row / 32, x as usize);
     }
+    taken
 }

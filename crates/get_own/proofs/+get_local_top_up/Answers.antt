@@ -3,7 +3,6 @@ use Rattle.get_own_topped.specs.Topped.{on_topped, top-topped}
 use Rattle.get_own.specs.TopUp.{take-parts, top_up-more, top_up-none}
 use Rattle.rules_calls.specs.FromLocals.{get_local}
 use Rattle.rules_calls.specs.State.{on_held, with_locals}
-use borrow.Author.Rules.{rules}
 use native.Mathlib.Omega.{arith}
 use Rattle.get_own.proofs.+get_local_top_up.Goals.{top_up-else-syncs-gt0-via-then-syncs-gt0+else-topped, top_up-else-syncs-gt0-via-else-syncs-gt0}
 use Rattle.get_own.proofs.+get_local_top_up.Goals as goal
@@ -41,7 +40,7 @@ get_local-returns-in-Absent t c = (
     ← c.take.ensures,
     c.in-Absent.is,
   ) (c.missed.ensures.0 _ _ _),
-  (search rules, search rules),
+  rw c.missed.ensures.1 (omega arith),
 )
 
 pub top_up-returns-then-topped : goal.top_up-returns-then-topped

@@ -5,31 +5,33 @@ use Rattle.get_own_topped.proofs.topped.Goals as goal
 pub returns-then-n-free : goal.returns-then-n-free
 returns-then-n-free c = λ b looks tries. topped-past _ _ _ _ _ _ _ _ _ _ c.if-n-free.true
 
-pub returns-then-put : goal.returns-then-put
-returns-then-put c =
-    λ b looks tries.
-    topped-took _ _ _ _ _ _ _ _ _ _
-    c.if-n-free.false
-    c.sync.ensures
-    c.in-Some.is
-    c.put.ensures
-    c.if-put.true
-
-pub returns-else-put : goal.returns-else-put
-returns-else-put c =
-    λ b looks tries.
-    topped-refused _ _ _ _ _ _ _ _ _ _
-    c.if-n-free.false
-    c.sync.ensures
-    c.in-Some.is
-    c.put.ensures
-    c.if-put.false
-    c.put-in-Some.ensures
-
-pub returns-in-None : goal.returns-in-None
-returns-in-None c =
+pub returns-in_default : goal.returns-in_default
+returns-in_default c =
     λ b looks tries.
     topped-nothing _ _ _ _ _ _ _ _ _ _
     c.if-n-free.false
     c.sync.ensures
-    c.in-None.is
+    c.in_default.is
+
+pub returns-then-not-taken : goal.returns-then-not-taken
+returns-then-not-taken c =
+    λ b looks tries.
+    rw c.if-not-taken.true
+    (topped-refused _ _ _ _ _ _ _ _ _ _
+    c.if-n-free.false
+    c.sync.ensures
+    c.in-Some.is
+    c.put-taken.ensures
+    c.if-not-taken.true
+    c.put.ensures)
+
+pub returns-else-not-taken : goal.returns-else-not-taken
+returns-else-not-taken c =
+    λ b looks tries.
+    rw c.if-not-taken.false
+    (topped-took _ _ _ _ _ _ _ _ _ _
+    c.if-n-free.false
+    c.sync.ensures
+    c.in-Some.is
+    c.put-taken.ensures
+    c.if-not-taken.false)
