@@ -31,17 +31,10 @@ pub fn begun() -> Setup {
     }
 }
 
-// Stores a word, where there is such a place.
-fn store_at<T: Copy>(words: &mut [T], at: usize, word: T) {
-    if let Some(place) = words.get_mut(at) {
-        *place = word;
-    }
-}
-
 // The header with another place for a class.
 fn placed(h: Header, class: usize, place: u8) -> Header {
     let mut places = h.places;
-    store_at(&mut places, class, place);
+    word_fields::store_at(&mut places, class, place);
     Header { places, ..h }
 }
 
@@ -99,10 +92,10 @@ pub fn store(
     s: Store,
 ) {
     match s {
-        Store::Pair { at, word } => store_at(table, at, word),
-        Store::Entry { at, word } => store_at(trees, at, word),
-        Store::Local { at, word } => store_at(locals, at, word),
-        Store::Word { at, word } => store_at(bits, at, word),
+        Store::Pair { at, word } => word_fields::store_at(table, at, word),
+        Store::Entry { at, word } => word_fields::store_at(trees, at, word),
+        Store::Local { at, word } => word_fields::store_at(locals, at, word),
+        Store::Word { at, word } => word_fields::store_at(bits, at, word),
         Store::Fill { from, count, word } => fill(bits, from, count, word),
     }
 }
