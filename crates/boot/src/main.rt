@@ -5,10 +5,10 @@
 
 mod refusals;
 
-ghost use Rattle.std.specs.Prelude.{◌≡◌};
+ghost use Rattle.std.specs.Prelude.{◌≡◌, replicate};
 ghost use Rattle.rules.specs.Words.{config};
 ghost use Rattle.rules_calls.specs.Calls.{outcome_of};
-ghost use Rattle.boot_board.specs.Board.{Ready};
+ghost use Rattle.boot_board.specs.Board.{Ready, board};
 
 use boot_patterns::Pattern;
 use boot_shows::Held;
@@ -93,39 +93,37 @@ fn boot(h: Header, table: &[u32; 64], trees: &mut [u32], locals: &mut [u64], bit
     }
 }
 
-// The board.
-fn boot_board() {
-    let table = boot_board::table();
-    let mut trees = [0u32; 32];
-    let mut locals = [0u64; 4];
-    let mut bits = [0u64; 1024];
-    let h = boot_board::header(boot_board::FRAMES);
-    boot(h, &table, &mut trees, &mut locals, &mut bits);
+// The store of a board: its header, its table and its words.
+#[derive(Drop)]
+struct Store<const TREES: usize, const BITS: usize> {
+    h: Header,
+    table: [u32; 64],
+    trees: [u32; TREES],
+    locals: [u64; 4],
+    bits: [u64; BITS],
 }
 
-// A board too small for the raster.
-fn boot_small() {
-    let table = boot_board::table();
-    let mut trees = [0u32; 1];
-    let mut locals = [0u64; 4];
-    let mut bits = [0u64; 32];
-    let h = boot_board::header(boot_board::SMALL);
-    boot(h, &table, &mut trees, &mut locals, &mut bits);
+impl<const TREES: usize, const BITS: usize> Store<TREES, BITS> {
+    // That of a board of so many frames; the words are zeros.
+    fn new(frames: usize) -> Self
+        ensures { Ready (board frames) (replicate TREES 0) (replicate 4 0) (replicate BITS 0) → Ready (config result.h result.table) result.trees result.locals result.bits }
+    {
+        Store {
+            h: boot_board::header(frames),
+            table: boot_board::table(),
+            trees: [0u32; TREES],
+            locals: [0u64; 4],
+            bits: [0u64; BITS],
+        }
+    }
 }
 
-// The refusals, on a store of the small board.
-fn show_refusals() {
-    let table = boot_board::table();
-    let mut trees = [0u32; 1];
-    let mut locals = [0u64; 4];
-    let mut bits = [0u64; 32];
-    let h = boot_board::header(boot_board::SMALL);
-    refusals::show(h, &table, &mut trees, &mut locals, &mut bits);
-}
-
-// Both boards, then the refusals.
+// Both boards, the second too small for the raster; then the refusals, on a store of the small one.
 fn main() {
-    boot_board();
-    boot_small();
-    show_refusals();
+    let mut s = Store::<32, 1024>::new(boot_board::FRAMES);
+    boot(s.h, &s.table, &mut s.trees, &mut s.locals, &mut s.bits);
+    let mut s = Store::<1, 32>::new(boot_board::SMALL);
+    boot(s.h, &s.table, &mut s.trees, &mut s.locals, &mut s.bits);
+    let mut s = Store::<1, 32>::new(boot_board::SMALL);
+    refusals::show(s.h, &s.table, &mut s.trees, &mut s.locals, &mut s.bits);
 }

@@ -2,6 +2,7 @@
 #![tactic(auto)]
 
 ghost use Rattle.std.specs.Prelude.{◌≡◌};
+ghost use Rattle.rules_calls.specs.Calls.{number_of};
 ghost use Rattle.text_bytes.specs.Text.{text, write};
 ghost use Rattle.run_answers.specs.GetText.{granted_text, reply_text};
 ghost use Rattle.run_answers.specs.OtherText.{outcome_text, row_text, rows_text, totals_text, stats_text, wrong_text};
@@ -79,6 +80,14 @@ fn totals(out: &mut [u8], at: usize, number: usize, t: Totals) -> usize
     text_bytes::put_byte(out, to, b'\n')
 }
 
+// What refused statistics tell: the refusal's number, and totals that are zeros.
+pub fn refused(x: Refusal) -> (usize, Totals)
+    ensures number { result.0 ≡ number_of x }
+    ensures zeros { result.1 ≡ record { free = 0; trees = 0 } }
+{
+    (c_numbers::refusal_number(x), Totals { free: 0, trees: 0 })
+}
+
 // The answer to statistics: the rows follow where the call is done; refused, it has zeros.
 pub fn stats(out: &mut [u8], at: usize, told: Result<Stats, Refusal>) -> usize
     ensures { text out.new result ≡ write (text out.old at) (stats_text told) }
@@ -89,8 +98,8 @@ pub fn stats(out: &mut [u8], at: usize, told: Result<Stats, Refusal>) -> usize
             rows(out, to, &s.rows)
         }
         Err(x) => {
-            let none = Totals { free: 0, trees: 0 };
-            totals(out, at, c_numbers::refusal_number(x), none)
+            let (number, none) = refused(x);
+            totals(out, at, number, none)
         }
     }
 }

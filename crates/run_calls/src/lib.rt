@@ -60,16 +60,14 @@ pub fn call(
     out: &mut [u8],
     at: usize,
 ) -> usize {
-    let t = run_store::lent_trees(setup, trees.len());
-    let l = run_store::lent_locals(setup, locals.len());
-    let b = run_store::lent_bits(setup, bits.len());
+    let lent = run_store::lent(setup, trees, locals, bits);
     let answered = made(
         setup.h,
         setup.rows,
         table,
-        &mut trees[0..t],
-        &mut locals[0..l],
-        &mut bits[0..b],
+        &mut trees[..lent.trees],
+        &mut locals[..lent.locals],
+        &mut bits[..lent.bits],
         c,
     );
     written(out, at, answered)

@@ -1,6 +1,8 @@
 // The commands of the line form, each read from the words after its name; none where they are not its words. No function asks more of its arguments than their types.
 #![tactic(auto)]
 
+ghost use Rattle.std.specs.Prelude.{◌≤◌, IfSome};
+
 use rules::Request;
 use run_lines::Words;
 
@@ -76,18 +78,31 @@ pub enum Command {
     Show(Show),
 }
 
-// frames F
-pub fn frames(mut words: Words) -> Option<Setting> {
-    let frames = words.number(u64::MAX)?;
+// One number up to `most`, and no word more.
+fn one(mut words: Words, most: u64) -> Option<usize> {
+    let n = words.number(most)?;
     words.end()?;
-    Some(Setting::Frames(frames as usize))
+    Some(n as usize)
+}
+
+// A place up to `last` and a word up to `most`, and no word more.
+fn placed(mut words: Words, last: u64, most: u64) -> Option<(usize, u64)>
+    ensures { IfSome result (λ p. p.1 ≤ most) }
+{
+    let at = words.number(last)?;
+    let word = words.number(most)?;
+    words.end()?;
+    Some((at as usize, word))
+}
+
+// frames F
+pub fn frames(words: Words) -> Option<Setting> {
+    one(words, u64::MAX).map(Setting::Frames)
 }
 
 // default D
-pub fn default_class(mut words: Words) -> Option<Setting> {
-    let class = words.number(200)?;
-    words.end()?;
-    Some(Setting::Default(class as usize))
+pub fn default_class(words: Words) -> Option<Setting> {
+    one(words, 200).map(Setting::Default)
 }
 
 // class C K: the place of a class in the header is 0 where it is unconfigured, else its locals plus one.
@@ -115,10 +130,8 @@ pub fn lend(mut words: Words) -> Option<Setting> {
 }
 
 // rows R
-pub fn rows(mut words: Words) -> Option<Setting> {
-    let rows = words.number(16)?;
-    words.end()?;
-    Some(Setting::Rows(rows as usize))
+pub fn rows(words: Words) -> Option<Setting> {
+    one(words, 16).map(Setting::Rows)
 }
 
 // pair R T KIND CUT LOW HIGH
@@ -137,36 +150,24 @@ pub fn pair(mut words: Words) -> Option<Store> {
 }
 
 // entry I W
-pub fn entry(mut words: Words) -> Option<Store> {
-    let at = words.number(199)?;
-    let word = words.number(4294967295)?;
-    words.end()?;
+pub fn entry(words: Words) -> Option<Store> {
+    let (at, word) = placed(words, 199, 4294967295)?;
     Some(Store::Entry {
-        at: at as usize,
+        at,
         word: word as u32,
     })
 }
 
 // local I W
-pub fn local(mut words: Words) -> Option<Store> {
-    let at = words.number(255)?;
-    let word = words.number(u64::MAX)?;
-    words.end()?;
-    Some(Store::Local {
-        at: at as usize,
-        word,
-    })
+pub fn local(words: Words) -> Option<Store> {
+    let (at, word) = placed(words, 255, u64::MAX)?;
+    Some(Store::Local { at, word })
 }
 
 // word I W
-pub fn bitmap_word(mut words: Words) -> Option<Store> {
-    let at = words.number(6399)?;
-    let word = words.number(u64::MAX)?;
-    words.end()?;
-    Some(Store::Word {
-        at: at as usize,
-        word,
-    })
+pub fn bitmap_word(words: Words) -> Option<Store> {
+    let (at, word) = placed(words, 6399, u64::MAX)?;
+    Some(Store::Word { at, word })
 }
 
 // fill FROM COUNT W

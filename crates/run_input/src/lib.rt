@@ -7,14 +7,21 @@ use run_commands::Command;
 use std::io::Read;
 use text_prints::Program;
 
-// Where the run stands: the next line's place in the input, the bytes there, the lines counted, whether a line too long is passed over, whether the input has ended, and the answers' bytes not yet written.
+// What the input's bytes are: lines, the rest of a line too long, which is passed over, or the last line, once the input has ended.
+#[derive(Clone, Copy)]
+pub enum State {
+    Lines,
+    Rest,
+    Last,
+}
+
+// Where the run stands: the next line's place in the input, the bytes there, what they are, the lines counted, and the answers' bytes not yet written.
 #[derive(Clone, Copy)]
 pub struct Run {
     pub from: usize,
     pub have: usize,
+    pub state: State,
     pub number: u64,
-    pub over: bool,
-    pub ended: bool,
     pub at: usize,
 }
 
@@ -23,9 +30,8 @@ pub fn begun() -> Run {
     Run {
         from: 0,
         have: 0,
+        state: State::Lines,
         number: 0,
-        over: false,
-        ended: false,
         at: 0,
     }
 }
@@ -70,37 +76,45 @@ fn command_of(buf: &[u8], from: usize, to: usize) -> Command {
 
 // The lines counted with this one; the rest of a line that is passed over is none.
 pub fn counted(r: Run) -> u64 {
-    if r.over {
-        return r.number;
+    match r.state {
+        State::Rest => r.number,
+        _ => r.number.wrapping_add(1),
     }
-    r.number.wrapping_add(1)
 }
 
 // The command of the line that ends at `e`; nothing of one that is passed over.
 pub fn command(buf: &[u8; 65536], r: Run, e: usize) -> Command {
-    if r.over {
-        return Command::Nothing;
+    match r.state {
+        State::Rest => Command::Nothing,
+        _ => command_of(buf, r.from, e),
     }
-    command_of(buf, r.from, e)
+}
+
+// What stands past a line: where the rest of one ends, lines.
+fn past_line(s: State) -> State {
+    match s {
+        State::Rest => State::Lines,
+        _ => s,
+    }
 }
 
 // The run past the line that ends at `e`.
 pub fn past(r: Run, e: usize, at: usize) -> Run {
     Run {
         from: e.wrapping_add(1),
+        state: past_line(r.state),
         number: counted(r),
-        over: false,
         at,
         ..r
     }
 }
 
 // The run with `have` bytes at the start of the input, all answers written.
-fn with_input(r: Run, have: usize, ended: bool) -> Run {
+fn with_input(r: Run, have: usize, state: State) -> Run {
     Run {
         from: 0,
         have,
-        ended,
+        state,
         at: 0,
         ..r
     }
@@ -118,8 +132,8 @@ fn say_wrong(buf: &[u8], number: u64, out: &mut [u8]) {
 // The run where a line too long is passed over, up to its line feed.
 fn passing_over(number: u64) -> Run {
     Run {
+        state: State::Rest,
         number,
-        over: true,
         ..begun()
     }
 }
@@ -133,15 +147,15 @@ fn last_line(buf: &mut [u8], left: usize, r: Run) -> Option<Run> {
         return None;
     }
     *buf.get_mut(left)? = b'\n';
-    Some(with_input(r, left + 1, true))
+    Some(with_input(r, left + 1, State::Last))
 }
 
 // What is left of an unfinished line, moved to the start; nothing of one that is passed over.
 fn left_over(buf: &mut [u8], r: Run) -> usize {
-    if r.over {
-        return 0;
+    match r.state {
+        State::Rest => 0,
+        _ => run_lines::keep(buf, r.from, r.have),
     }
-    run_lines::keep(buf, r.from, r.have)
 }
 
 // One read into the input from `left` on: how many bytes came, 0 where it failed.
@@ -158,13 +172,13 @@ fn after_read(rt: &impl Input, buf: &mut [u8], left: usize, r: Run) -> Option<Ru
     if n == 0 {
         return last_line(buf, left, r);
     }
-    Some(with_input(r, left.wrapping_add(n), false))
+    Some(with_input(r, left.wrapping_add(n), r.state))
 }
 
 // More input, once the answers are written; none where all is done.
 pub fn more(rt: &impl Input, buf: &mut [u8; 65536], r: Run, out: &mut [u8; 262144]) -> Option<Run> {
     text_prints::front(Program::Runner, out, r.at);
-    if r.ended {
+    if let State::Last = r.state {
         return None;
     }
     let left = left_over(buf, r);

@@ -35,10 +35,7 @@ fn word_end(line: &[u8]) -> usize
     ensures first { result ≡ position_or_len is_space line.now }
     ensures within { result ≤ length line.now }
 {
-    match line.iter().position(|b| *b == b' ') {
-        Some(end) => end,
-        None => line.len(),
-    }
+    line.iter().position(|b| *b == b' ').unwrap_or(line.len())
 }
 
 impl<'a> Words<'a> {

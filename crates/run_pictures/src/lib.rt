@@ -41,15 +41,13 @@ pub fn show(
     out: &mut [u8],
     at: usize,
 ) -> usize {
-    let t = run_store::lent_trees(setup, trees.len());
-    let l = run_store::lent_locals(setup, locals.len());
-    let b = run_store::lent_bits(setup, bits.len());
+    let lent = run_store::lent(setup, trees, locals, bits);
     show_these(
         setup.h,
         table,
-        &trees[0..t],
-        &locals[0..l],
-        &bits[0..b],
+        &trees[..lent.trees],
+        &locals[..lent.locals],
+        &bits[..lent.bits],
         s,
         out,
         at,

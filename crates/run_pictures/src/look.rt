@@ -115,10 +115,9 @@ fn total_line(number: usize, t: Totals, frames: usize, trees: usize) {
 
 // The totals of the words.
 fn totals(h: Header, table: &[u32; 64], trees: &[u32], locals: &[u64], bits: &[u64]) {
-    let none = Totals { free: 0, trees: 0 };
     let (number, t) = match stats_lent::report(h, table, trees, locals, bits, 8) {
         Ok(told) => (0, told.totals),
-        Err(x) => (c_numbers::refusal_number(x), none),
+        Err(x) => run_answers::refused(x),
     };
     total_line(number, t, h.frames, trees.len());
 }

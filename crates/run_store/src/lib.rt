@@ -1,7 +1,7 @@
 // The runner's store: what a line sets, the words that it stores, and the lengths that are lent.
 #![tactic(auto)]
 
-ghost use Rattle.std.specs.Prelude.{◌≤◌};
+ghost use Rattle.std.specs.Prelude.{◌≤◌, length};
 
 use rules::Header;
 use run_commands::{Command, Setting, Store};
@@ -31,17 +31,10 @@ pub fn begun() -> Setup {
     }
 }
 
-// Stores a word, where there is such a place.
-fn store_at<T: Copy>(words: &mut [T], at: usize, word: T) {
-    if let Some(place) = words.get_mut(at) {
-        *place = word;
-    }
-}
-
 // The header with another place for a class.
 fn placed(h: Header, class: usize, place: u8) -> Header {
     let mut places = h.places;
-    store_at(&mut places, class, place);
+    word_fields::store_at(&mut places, class, place);
     Header { places, ..h }
 }
 
@@ -99,10 +92,10 @@ pub fn store(
     s: Store,
 ) {
     match s {
-        Store::Pair { at, word } => store_at(table, at, word),
-        Store::Entry { at, word } => store_at(trees, at, word),
-        Store::Local { at, word } => store_at(locals, at, word),
-        Store::Word { at, word } => store_at(bits, at, word),
+        Store::Pair { at, word } => word_fields::store_at(table, at, word),
+        Store::Entry { at, word } => word_fields::store_at(trees, at, word),
+        Store::Local { at, word } => word_fields::store_at(locals, at, word),
+        Store::Word { at, word } => word_fields::store_at(bits, at, word),
         Store::Fill { from, count, word } => fill(bits, from, count, word),
     }
 }
@@ -114,26 +107,27 @@ fn exact_trees(frames: usize) -> usize
     word_header::tree_count(frames.min(0x20_0000))
 }
 
-// The tree words lent, of so many that there are.
-pub fn lent_trees(setup: Setup, most: usize) -> usize
-    ensures { result ≤ most }
-{
-    let trees = setup.trees.unwrap_or(exact_trees(setup.h.frames));
-    trees.min(most)
+// How many tree, local and bitmap words are lent.
+#[derive(Clone, Copy)]
+pub struct Lengths {
+    pub trees: usize,
+    pub locals: usize,
+    pub bits: usize,
 }
 
-// The local words lent, of so many that there are.
-pub fn lent_locals(setup: Setup, most: usize) -> usize
-    ensures { result ≤ most }
+// The lengths lent, of these words.
+pub fn lent(setup: Setup, trees: &[u32], locals: &[u64], bits: &[u64]) -> Lengths
+    ensures trees { result.trees ≤ length trees.now }
+    ensures locals { result.locals ≤ length locals.now }
+    ensures bits { result.bits ≤ length bits.now }
 {
-    let locals = setup.locals.unwrap_or(word_header::local_count(setup.h));
-    locals.min(most)
-}
-
-// The bitmap words lent, of so many that there are.
-pub fn lent_bits(setup: Setup, most: usize) -> usize
-    ensures { result ≤ most }
-{
-    let bits = setup.bits.unwrap_or(32 * exact_trees(setup.h.frames));
-    bits.min(most)
+    let exact = exact_trees(setup.h.frames);
+    let t = setup.trees.unwrap_or(exact);
+    let l = setup.locals.unwrap_or(word_header::local_count(setup.h));
+    let b = setup.bits.unwrap_or(32 * exact);
+    Lengths {
+        trees: t.min(trees.len()),
+        locals: l.min(locals.len()),
+        bits: b.min(bits.len()),
+    }
 }

@@ -1,7 +1,7 @@
 -- Numbers as text: decimal, hexadecimal, padded. Assumes nothing.
 use Rattle.std.specs.Prelude.{◌≡◌, Bool, true, false, List, ◌++◌, ℕ, zero, suc, ◌+◌, ◌-◌, ◌^◌, ◌≤◌, ◌<◌, min, max, ltb, length}
 use Rattle.std.proofs.Common.{sym, ap, subst, ◌∙◌, ⊎_elim, eq-or-lt_of_le, le_trans, not-le_of_lt, lt_of_not-le, le_of_suc-le-suc, arith, lt-ltb, le-ltb}
-use Rattle.std.proofs.Math.Nat.{pow-le-pow_right}
+use Rattle.std.proofs.Math.Nat.{pow-le-pow_right, zero-sub}
 use Rattle.io.specs.Digits.{last_digits, IsDigitCount}
 use Rattle.text_bytes.specs.Text.{blanks}
 
@@ -74,3 +74,8 @@ pub padded-is : (width n k s : ℕ) (ds : List ℕ) → ds ≡ decimal n → s �
 unfolding padded
 padded-is width n k s ds e f g =
     ap (λ (j : ℕ). blanks j ++ ds) (f ∙ ap (λ (j : ℕ). width - j) g) ∙ ap (λ (l : List ℕ). blanks (width - length l) ++ l) e
+
+-- no width: the number alone
+pub padded-alone : (n : ℕ) → padded 0 n ≡ decimal n
+unfolding padded blanks
+padded-alone n = ap (λ (k : ℕ). blanks k ++ decimal n) (zero-sub (length (decimal n)))

@@ -39,21 +39,12 @@ fn spaces(out: &mut [u8], at: usize, n: usize) -> usize
     to
 }
 
-// A number in decimal digits.
-fn put_decimal(out: &mut [u8], at: usize, n: u64) -> usize
-    ensures { text out.new result ≡ write (text out.old at) (decimal n) }
-{
-    let mut digits = [0u8; 20];
-    let k = io::decimal(n, &mut digits);
-    append(out, at, &digits[..k])
-}
-
 // A text, then a number in decimal digits.
 pub fn put_number(out: &mut [u8], at: usize, before: &[u8], n: u64) -> usize
     ensures { text out.new result ≡ write (text out.old at) (before.now ++ decimal n) }
 {
     let to = append(out, at, before);
-    put_decimal(out, to, n)
+    put_padded(out, to, n, 0)
 }
 
 // A number in decimal digits, spaces before it up to a width.

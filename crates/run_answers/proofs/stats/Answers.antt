@@ -9,4 +9,4 @@ returns-in-Ok c = rw c.in-Ok.is (and_then _ _ _ _ _ c.totals-to.ensures c.rows.e
 
 pub returns-in-Err : goal.returns-in-Err
 unfolding stats_text
-returns-in-Err c = rw (c.in-Err.is, ← c.refusal_number.ensures) c.totals.ensures
+returns-in-Err c = rw (c.in-Err.is, ← c.refused-number.ensures.number, ← c.refused-number.ensures.zeros) c.totals.ensures
