@@ -7,13 +7,6 @@ ghost use Rattle.rules.specs.Words.{tree_count, configured, locals_of, slot, loc
 
 use rules::Header;
 
-// A byte as a number: `usize::from`, by the name that test_accept calls it by.
-pub fn wide(x: u8) -> usize
-    ensures { (result ≡ x) × (result < 256) }
-{
-    usize::from(x)
-}
-
 // Whether a class is configured: lent places, so that none are copied.
 #[tactic(auto, unfolding(rules::specs::Words::configured))]
 pub fn configured_in(places: &[u8; 8], class: usize) -> bool
