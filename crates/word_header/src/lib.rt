@@ -41,7 +41,7 @@ pub fn locals_of(h: Header, class: usize) -> usize
     locals_in(&h.places, class)
 }
 
-// The slot of a class's first local in the lent words: as many locals stand before it.
+// The slot of a class's first local in the lent words: as many locals stand before it. A loop, since the check does not find that an iterator's sum fits.
 #[tactic(auto, unfolding(rules::specs::Base::sum))]
 pub fn first_slot(h: Header, class: usize) -> usize
     requires { class ≤ 8 }
