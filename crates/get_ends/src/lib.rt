@@ -48,13 +48,9 @@ pub fn stuck(counts: Counts) -> Routed
 }
 
 // Whether a route that came back so is the last: a frame, or stuck.
+#[tactic(auto, unfolding(crate::specs::Ends::ends))]
 pub fn ends(g: Got) -> bool
     ensures { result ≡ ends g }
 {
-    match g {
-        Got::Done { frame: _, class: _ } => true,
-        Got::Missed => false,
-        Got::MissedAt(_) => false,
-        Got::Stuck => true,
-    }
+    matches!(g, Got::Done { .. } | Got::Stuck)
 }

@@ -10,7 +10,7 @@ use rules::Header;
 use rules_calls::Tally;
 use stats_by_class::Entries;
 
-// The free of the locals of a class.
+// The free of the locals of a class. A loop, since the check does not find that an iterator's sum fits.
 fn local_free(h: Header, locals: &[u64], class: usize) -> usize
     requires { class < 8 }
     ensures { ((pairs : List ℕ) → result ≡ local_free (config h pairs) locals.now class) × (result ≤ 2 ^ 27) }

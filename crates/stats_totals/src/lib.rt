@@ -9,7 +9,7 @@ ghost use Rattle.stats_totals.specs.Wholes.{entries_free, entries_whole, locals_
 use rules::Header;
 use rules_calls::Totals;
 
-// Total free and free trees of the first n entries.
+// Total free and free trees of the first n entries. By places: in a loop over the words the check does not find that past their end nothing is added.
 fn entries_whole(trees: &[u32], n: usize) -> Totals
     requires { n ≤ 1024 }
     ensures { (result.free ≡ entries_free trees.now n) × ((result.trees ≡ entries_whole 11 trees.now n)

@@ -1,5 +1,5 @@
 // What the acceptance test asks of one pair of the policy table: its form, and the rules of good pairs.
-#![tactic(auto, using(std::proofs::lemmas::Bool::Decides::nat_tests, law_rules::specs::All::all_loop), unfolding(rules::specs::Policy::good, rules::specs::Policy::pair_formed, rules::specs::Policy::kind_of, rules::specs::Policy::cut_of, law_rules::specs::Rows::leads_back, law_rules::specs::Rows::covers, law_rules::specs::Rows::demote_covers,))]
+#![tactic(auto, using(std::proofs::lemmas::Bool::Decides::nat_tests, law_rules::specs::All::all_loop), unfolding(rules::specs::Policy::pair_formed, rules::specs::Policy::kind_of, rules::specs::Policy::cut_of, law_rules::specs::Rows::leads_back, law_rules::specs::Rows::covers, law_rules::specs::Rows::demote_covers,))]
 
 ghost use Rattle.std.specs.Prelude.{◌≡◌, ◌<◌};
 ghost use Rattle.rules.specs.Words.{config};
@@ -25,7 +25,7 @@ fn pair_covered(table: &[u32; 64], o: usize, e: usize, f: usize) -> bool
     requires { (o < 8) × ((e < 8) × (f < 8)) }
     ensures { (h : Header) → result ≡ pair_covered (config h table.now) o e f }
 {
-    word_policy::kind_at(table, e, f) < 2 || 2 <= word_policy::kind_at(table, o, f)
+    !word_policy::is_good(table, e, f) || word_policy::is_good(table, o, f)
 }
 
 // Every class that e is good with, o is good with.
@@ -46,9 +46,9 @@ pub fn leads_back(h: Header, table: &[u32; 64], o: usize, e: usize) -> bool
     requires { (h.default < 8) × ((o < 8) × (e < 8)) }
     ensures { result ≡ leads_back (config h table.now) o e }
 {
-    word_policy::kind_at(table, o, e) < 2
+    !word_policy::is_good(table, o, e)
         || word_policy::kind_at(table, e, h.default) == 0
-        || 2 <= word_policy::kind_at(table, o, h.default)
+        || word_policy::is_good(table, o, h.default)
 }
 
 // The third rule at (o, e): if it is Demote then o covers e.

@@ -55,7 +55,7 @@ fn row_accepted(h: Header, places: &[u8; 8], table: &[u32; 64], o: usize) -> boo
     ensures { result ≡ row_accepted (config h table.now) o }
 {
     if word_header::configured_in(places, o) {
-        2 <= word_policy::kind_at(table, o, o) && cells_accepted(h, places, table, o)
+        word_policy::is_good(table, o, o) && cells_accepted(h, places, table, o)
     } else {
         row_empty(table, o)
     }

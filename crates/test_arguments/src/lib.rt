@@ -14,14 +14,8 @@ fn check_local(h: Header, class: usize, local: Option<usize>) -> Result<(), Refu
     ensures { (pairs : List ℕ) → outcome_of result ≡ refuse_local (config h pairs) class local }
 {
     match local {
-        None => Ok(()),
-        Some(i) => {
-            if i < word_header::locals_of(h, class) {
-                Ok(())
-            } else {
-                Err(Refusal::Local)
-            }
-        }
+        Some(i) if word_header::locals_of(h, class) <= i => Err(Refusal::Local),
+        _ => Ok(()),
     }
 }
 

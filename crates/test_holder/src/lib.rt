@@ -1,5 +1,5 @@
 // The standing rules of a present local, the holder of a tree.
-#![tactic(auto, using(std::proofs::lemmas::Bool::Decides::nat_tests), unfolding(rules_calls::specs::Standing::holder_stands, rules::specs::Policy::good))]
+#![tactic(auto, using(std::proofs::lemmas::Bool::Decides::nat_tests), unfolding(rules_calls::specs::Standing::holder_stands))]
 
 ghost use Rattle.std.specs.Prelude.{◌≡◌, ◌^◌, ◌<◌};
 ghost use Rattle.rules.specs.Words.{config};
@@ -26,6 +26,6 @@ pub fn holder_stands(
     }
     let e = tree_words::load(trees, t);
     e.reserved
-        && 2 <= word_policy::kind_at(table, class, e.class)
+        && word_policy::is_good(table, class, e.class)
         && e.free + l.free == lower_words::clear_in(bits, t)
 }

@@ -7,13 +7,6 @@ ghost use Rattle.rules.specs.Words.{tree_count, configured, locals_of, slot, loc
 
 use rules::Header;
 
-// A byte as a number: `usize::from`, by the name that test_accept calls it by.
-pub fn wide(x: u8) -> usize
-    ensures { (result ≡ x) × (result < 256) }
-{
-    usize::from(x)
-}
-
 // Whether a class is configured: lent places, so that none are copied.
 #[tactic(auto, unfolding(rules::specs::Words::configured))]
 pub fn configured_in(places: &[u8; 8], class: usize) -> bool
@@ -48,7 +41,7 @@ pub fn locals_of(h: Header, class: usize) -> usize
     locals_in(&h.places, class)
 }
 
-// The slot of a class's first local in the lent words: as many locals stand before it.
+// The slot of a class's first local in the lent words: as many locals stand before it. A loop, since the check does not find that an iterator's sum fits.
 #[tactic(auto, unfolding(rules::specs::Base::sum))]
 pub fn first_slot(h: Header, class: usize) -> usize
     requires { class ≤ 8 }

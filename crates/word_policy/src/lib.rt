@@ -4,7 +4,7 @@
 ghost use Rattle.std.specs.Prelude.{◌≡◌, ◌<◌};
 ghost use Rattle.rules.specs.Words.{config};
 ghost use Rattle.rules.specs.declared.Header.{Header};
-ghost use Rattle.rules.specs.Policy.{pair_of, policy_of, policy, kind_at};
+ghost use Rattle.rules.specs.Policy.{pair_of, policy_of, policy, kind_at, good};
 ghost use Rattle.rules.specs.Locals.{may_pay, may_move};
 
 use rules::Kind;
@@ -48,6 +48,15 @@ pub fn kind_at(table: &[u32; 64], requested: usize, target: usize) -> u32
     ensures { (h : Header) → result ≡ kind_at (config h table.now) requested target }
 {
     pair_at(table, requested, target) % 4
+}
+
+// Whether a pair of classes is good: Demote or Match.
+#[tactic(auto, using(std::proofs::lemmas::Bool::Decides::nat_tests), unfolding(rules::specs::Policy::good))]
+pub fn is_good(table: &[u32; 64], requested: usize, target: usize) -> bool
+    requires { (requested < 8) × (target < 8) }
+    ensures { (h : Header) → result ≡ good (config h table.now) requested target }
+{
+    2 <= kind_at(table, requested, target)
 }
 
 // Whether a kind pays: Steal or Match.
