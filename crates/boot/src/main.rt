@@ -36,7 +36,7 @@ fn take_all(
     locals: &mut [u64],
     bits: &mut [u64],
 ) -> [Held; 3] {
-    let mut held = [boot_shows::nothing(); 3];
+    let mut held = [Held::default(); 3];
     for (n, p) in PATTERNS.iter().enumerate() {
         held[n] = boot_shows::show(h, table, trees, locals, bits, *p);
     }

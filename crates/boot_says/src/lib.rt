@@ -151,11 +151,11 @@ fn totals(free: usize, trees: usize) {
 
 // Whether all frames are free.
 fn all_free(free: usize, frames: usize) {
-    if free == frames {
-        say(b"    all frames are free\n");
-        return;
-    }
-    say(b"    not all frames are free\n");
+    say(if free == frames {
+        b"    all frames are free\n"
+    } else {
+        b"    not all frames are free\n"
+    });
 }
 
 // The answer to statistics on a board of so many frames, with the rows of its two classes.

@@ -8,12 +8,11 @@ use boot_patterns::Pattern;
 use rules::Header;
 use rules_calls::Granted;
 
-// What is held of a pattern: how many frames. The binary digits of that number are the orders of the blocks; the block of an order begins at
-// first[order].
-#[derive(Clone, Copy)]
+// What is held of a pattern: how many frames, and the first frame of the block of each order, if it is held.
+#[derive(Clone, Copy, Default)]
 pub struct Held {
     pub frames: usize,
-    pub first: [usize; 12],
+    pub first: [Option<usize>; 12],
 }
 
 // Takes a pattern's blocks, the largest first: the whole of it, or what was taken up to the first refusal.
@@ -28,10 +27,8 @@ fn take(
     ensures { IfOk result (λ held. held.frames ≡ frames_of p) }
 {
     let wanted = boot_patterns::frames(p);
-    let mut frames = 0;
-    let mut first = [0usize; 12];
-    for step in 0..12 {
-        let order = 11 - step;
+    let mut held = Held::default();
+    for order in (0..12).rev() {
         if !boot_patterns::has_block(wanted, order) {
             continue;
         }
@@ -39,12 +36,12 @@ fn take(
         let reply = get::get(h, table, trees, locals, bits, None, q);
         boot_says::got(p, order, reply);
         let Ok(Granted { frame, .. }) = reply.granted else {
-            return Err(Held { frames, first });
+            return Err(held);
         };
-        first[order] = frame;
-        frames = boot_patterns::with_block(frames, order);
+        held.first[order] = Some(frame);
+        held.frames = boot_patterns::with_block(held.frames, order);
     }
-    Ok(Held { frames, first })
+    Ok(held)
 }
 
 // Gives back the blocks that are held of a pattern, with the class and local that they were taken with.
@@ -57,24 +54,12 @@ pub fn give(
     p: Pattern,
     held: Held,
 ) {
-    let frames = held.frames;
-    let first = held.first;
-    for step in 0..12 {
-        let order = 11 - step;
-        if !boot_patterns::has_block(frames, order) {
-            continue;
+    for order in (0..12).rev() {
+        if let Some(frame) = held.first[order] {
+            let q = boot_patterns::request(p, order);
+            let outcome = put::put(h, table, trees, locals, bits, frame, q);
+            boot_says::gave(p, order, outcome);
         }
-        let q = boot_patterns::request(p, order);
-        let outcome = put::put(h, table, trees, locals, bits, first[order], q);
-        boot_says::gave(p, order, outcome);
-    }
-}
-
-// Nothing is held.
-pub fn nothing() -> Held {
-    Held {
-        frames: 0,
-        first: [0; 12],
     }
 }
 
@@ -95,7 +80,7 @@ pub fn show(
         Err(part) => {
             give(h, table, trees, locals, bits, p, part);
             boot_says::built_in(p);
-            nothing()
+            Held::default()
         }
     }
 }
