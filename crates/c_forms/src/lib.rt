@@ -2,7 +2,7 @@
 #![tactic(auto)]
 
 ghost use Rattle.std.specs.Prelude.{◌≡◌};
-ghost use Rattle.c_forms.specs.Args.{name_of, given_of, asking};
+ghost use Rattle.c_forms.specs.Args.{asking};
 ghost use Rattle.c_forms.specs.Summary.{summary_of};
 
 use rules::Request;
@@ -17,20 +17,6 @@ pub struct Summary {
     pub trees: usize,
 }
 
-// The frame that a get names, if it names one.
-pub fn name_of(named: bool, frame: usize) -> Option<usize>
-    ensures { result ≡ name_of named frame }
-{
-    named.then_some(frame)
-}
-
-// The local that a call gives, if it gives one.
-fn given_of(given: bool, local: usize) -> Option<usize>
-    ensures { result ≡ given_of given local }
-{
-    given.then_some(local)
-}
-
 // What a get or a put asks for.
 pub fn ask(order: usize, class: usize, given: bool, local: usize) -> Request
     ensures { result ≡ asking order class given local }
@@ -38,7 +24,7 @@ pub fn ask(order: usize, class: usize, given: bool, local: usize) -> Request
     Request {
         order,
         class,
-        local: given_of(given, local),
+        local: given.then_some(local),
     }
 }
 

@@ -42,7 +42,7 @@ pub fn llfree_get(
     ensures { GetAnswer h table.now (name_of named frame) (asking order class given local) (words trees.old locals.old bits.old)
         result (words trees.new locals.new bits.new) }
 {
-    let name = c_forms::name_of(named, frame);
+    let name = named.then_some(frame);
     let q = c_forms::ask(order, class, given, local);
     c_numbers::answered(get::get(h, table, trees, locals, bits, name, q))
 }
