@@ -53,17 +53,9 @@ fn usage() {
     );
 }
 
-// The end of the line that begins at `from`, among `have` bytes; `have` where it is not there yet.
-fn end_in(buf: &[u8], from: usize, have: usize) -> usize {
-    match buf.get(..have) {
-        Some(input) => run_lines::line_end(input, from),
-        None => have,
-    }
-}
-
-// The end of the next line; the bytes there where it has none yet.
-pub fn end_of(buf: &[u8; 65536], r: Run) -> usize {
-    end_in(buf, r.from, r.have)
+// The end of the next line, where it has one yet.
+pub fn end_of(buf: &[u8; 65536], r: Run) -> Option<usize> {
+    run_lines::line_end(buf.get(..r.have)?, r.from)
 }
 
 // The command of the line from `from` to `to`.

@@ -41,8 +41,7 @@ fn main(rt: HostRuntime) {
     let mut setup = run_store::begun();
     let mut r = run_input::begun();
     for _ in 0..u64::MAX {
-        let e = run_input::end_of(&buf, r);
-        if e < r.have {
+        if let Some(e) = run_input::end_of(&buf, r) {
             let c = run_input::command(&buf, r, e);
             let to = obey(
                 c,
