@@ -8,32 +8,22 @@ use std::io::Read;
 use text_prints::Program;
 
 // What the input's bytes are: lines, the rest of a line too long, which is passed over, or the last line, once the input has ended.
-#[derive(Clone, Copy)]
+#[derive(Clone, Copy, Default)]
 pub enum State {
+    #[default]
     Lines,
     Rest,
     Last,
 }
 
-// Where the run stands: the next line's place in the input, the bytes there, what they are, the lines counted, and the answers' bytes not yet written.
-#[derive(Clone, Copy)]
+// Where the run stands: the next line's place in the input, the bytes there, what they are, the lines counted, and the answers' bytes not yet written; at the beginning nothing is read.
+#[derive(Clone, Copy, Default)]
 pub struct Run {
     pub from: usize,
     pub have: usize,
     pub state: State,
     pub number: u64,
     pub at: usize,
-}
-
-// At the beginning nothing is read.
-pub fn begun() -> Run {
-    Run {
-        from: 0,
-        have: 0,
-        state: State::Lines,
-        number: 0,
-        at: 0,
-    }
 }
 
 // Room for an answer more, of at most 198,000 bytes: the answers are written out where fewer are left.
@@ -126,7 +116,7 @@ fn passing_over(number: u64) -> Run {
     Run {
         state: State::Rest,
         number,
-        ..begun()
+        ..Run::default()
     }
 }
 

@@ -39,7 +39,7 @@ fn main(rt: HostRuntime) {
     let mut buf = [0u8; 65536];
     let mut out = [0u8; 262144];
     let mut setup = run_store::begun();
-    let mut r = run_input::begun();
+    let mut r = Run::default();
     for _ in 0..u64::MAX {
         if let Some(e) = run_input::end_of(&buf, r) {
             let c = run_input::command(&buf, r, e);
