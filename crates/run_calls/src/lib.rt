@@ -16,7 +16,7 @@ pub fn call(
     at: usize,
 ) -> usize {
     let h = setup.h;
-    let lent = run_store::lent(setup, trees, locals, bits);
+    let lent = setup.lent(trees, locals, bits);
     let trees = &mut trees[..lent.trees];
     let locals = &mut locals[..lent.locals];
     let bits = &mut bits[..lent.bits];

@@ -37,7 +37,7 @@ fn main(rt: HostRuntime) {
     let mut locals = [0u64; 256];
     let mut bits = [0u64; 6400];
     let mut out = [0u8; 262144];
-    let mut setup = run_store::begun();
+    let mut setup = Setup::new();
     let mut input = Lines::new();
     for _ in 0..u64::MAX {
         if let Some(e) = input.end() {
@@ -52,7 +52,7 @@ fn main(rt: HostRuntime) {
                 &mut bits,
                 &mut out,
             );
-            setup = run_store::after(setup, c);
+            setup = setup.after(c);
             input.pass(e, to);
         } else if input.more(&rt, &mut out).is_none() {
             return;
