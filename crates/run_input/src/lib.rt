@@ -9,31 +9,21 @@ use text_prints::Program;
 
 // What the input's bytes are: lines, the rest of a line too long, which is passed over, or the last line, once the input has ended.
 #[derive(Clone, Copy)]
-pub enum State {
+enum State {
     Lines,
     Rest,
     Last,
 }
 
-// Where the run stands: the next line's place in the input, the bytes there, what they are, the lines counted, and the answers' bytes not yet written.
-#[derive(Clone, Copy)]
-pub struct Run {
-    pub from: usize,
-    pub have: usize,
-    pub state: State,
-    pub number: u64,
+// The input's bytes, and where the run stands: the next line's place there, how many bytes there are, what they are, the lines counted, and the answers' bytes not yet written.
+#[derive(Drop)]
+pub struct Lines {
+    buf: [u8; 65536],
+    from: usize,
+    have: usize,
+    state: State,
+    number: u64,
     pub at: usize,
-}
-
-// At the beginning nothing is read.
-pub fn begun() -> Run {
-    Run {
-        from: 0,
-        have: 0,
-        state: State::Lines,
-        number: 0,
-        at: 0,
-    }
 }
 
 // Room for an answer more, of at most 198,000 bytes: the answers are written out where fewer are left.
@@ -53,70 +43,11 @@ fn usage() {
     );
 }
 
-// The end of the line that begins at `from`, among `have` bytes; `have` where it is not there yet.
-fn end_in(buf: &[u8], from: usize, have: usize) -> usize {
-    match buf.get(..have) {
-        Some(input) => run_lines::line_end(input, from),
-        None => have,
-    }
-}
-
-// The end of the next line; the bytes there where it has none yet.
-pub fn end_of(buf: &[u8; 65536], r: Run) -> usize {
-    end_in(buf, r.from, r.have)
-}
-
 // The command of the line from `from` to `to`.
 fn command_of(buf: &[u8], from: usize, to: usize) -> Command {
     match buf.get(from..to) {
         Some(line) => run_parses::parse(line),
         None => Command::Wrong,
-    }
-}
-
-// The lines counted with this one; the rest of a line that is passed over is none.
-pub fn counted(r: Run) -> u64 {
-    match r.state {
-        State::Rest => r.number,
-        _ => r.number.wrapping_add(1),
-    }
-}
-
-// The command of the line that ends at `e`; nothing of one that is passed over.
-pub fn command(buf: &[u8; 65536], r: Run, e: usize) -> Command {
-    match r.state {
-        State::Rest => Command::Nothing,
-        _ => command_of(buf, r.from, e),
-    }
-}
-
-// What stands past a line: where the rest of one ends, lines.
-fn past_line(s: State) -> State {
-    match s {
-        State::Rest => State::Lines,
-        _ => s,
-    }
-}
-
-// The run past the line that ends at `e`.
-pub fn past(r: Run, e: usize, at: usize) -> Run {
-    Run {
-        from: e.wrapping_add(1),
-        state: past_line(r.state),
-        number: counted(r),
-        at,
-        ..r
-    }
-}
-
-// The run with `have` bytes at the start of the input, all answers written.
-fn with_input(r: Run, have: usize, state: State) -> Run {
-    Run {
-        from: 0,
-        have,
-        state,
-        at: 0,
-        ..r
     }
 }
 
@@ -129,35 +60,6 @@ fn say_wrong(buf: &[u8], number: u64, out: &mut [u8]) {
     text_prints::front(Program::Runner, out, at);
 }
 
-// The run where a line too long is passed over, up to its line feed.
-fn passing_over(number: u64) -> Run {
-    Run {
-        state: State::Rest,
-        number,
-        ..begun()
-    }
-}
-
-// The end of the input: what is left is a line, if it is not empty; none where nothing is left.
-fn last_line(buf: &mut [u8], left: usize, r: Run) -> Option<Run> {
-    if left == 0 {
-        if r.number == 0 {
-            usage();
-        }
-        return None;
-    }
-    *buf.get_mut(left)? = b'\n';
-    Some(with_input(r, left + 1, State::Last))
-}
-
-// What is left of an unfinished line, moved to the start; nothing of one that is passed over.
-fn left_over(buf: &mut [u8], r: Run) -> usize {
-    match r.state {
-        State::Rest => 0,
-        _ => run_lines::keep(buf, r.from, r.have),
-    }
-}
-
 // One read into the input from `left` on: how many bytes came, 0 where it failed.
 fn read(rt: &impl Input, buf: &mut [u8], left: usize) -> usize {
     if left >= buf.len() {
@@ -166,26 +68,102 @@ fn read(rt: &impl Input, buf: &mut [u8], left: usize) -> usize {
     rt.reader().read(&mut buf[left..]).unwrap_or(0)
 }
 
-// The run after a read behind the `left` bytes of an unfinished line.
-fn after_read(rt: &impl Input, buf: &mut [u8], left: usize, r: Run) -> Option<Run> {
-    let n = read(rt, buf, left);
-    if n == 0 {
-        return last_line(buf, left, r);
+impl Lines {
+    // At the beginning nothing is read.
+    pub fn new() -> Self {
+        Lines {
+            buf: [0; 65536],
+            from: 0,
+            have: 0,
+            state: State::Lines,
+            number: 0,
+            at: 0,
+        }
     }
-    Some(with_input(r, left.wrapping_add(n), r.state))
-}
 
-// More input, once the answers are written; none where all is done.
-pub fn more(rt: &impl Input, buf: &mut [u8; 65536], r: Run, out: &mut [u8; 262144]) -> Option<Run> {
-    text_prints::front(Program::Runner, out, r.at);
-    if let State::Last = r.state {
-        return None;
+    // The end of the next line, where it has one yet.
+    pub fn end(&self) -> Option<usize> {
+        run_lines::line_end(self.buf.get(..self.have)?, self.from)
     }
-    let left = left_over(buf, r);
-    if left < 65536 {
-        return after_read(rt, buf, left, r);
+
+    // The lines counted with this one; the rest of a line that is passed over is none.
+    pub fn counted(&self) -> u64 {
+        match self.state {
+            State::Rest => self.number,
+            _ => self.number.wrapping_add(1),
+        }
     }
-    let number = r.number.wrapping_add(1);
-    say_wrong(buf, number, out);
-    Some(passing_over(number))
+
+    // The command of the line that ends at `e`; nothing of one that is passed over.
+    pub fn command(&self, e: usize) -> Command {
+        match self.state {
+            State::Rest => Command::Nothing,
+            _ => command_of(&self.buf, self.from, e),
+        }
+    }
+
+    // Past the line that ends at `e`: where the rest of one ends, lines stand.
+    pub fn pass(&mut self, e: usize, at: usize) {
+        self.number = self.counted();
+        if let State::Rest = self.state {
+            self.state = State::Lines;
+        }
+        self.from = e.wrapping_add(1);
+        self.at = at;
+    }
+
+    // With `have` bytes at the start of the input, all answers written.
+    fn hold(&mut self, have: usize, state: State) {
+        self.from = 0;
+        self.have = have;
+        self.state = state;
+        self.at = 0;
+    }
+
+    // The end of the input: what is left is a line, if it is not empty; none where nothing is left.
+    fn last_line(&mut self, left: usize) -> Option<()> {
+        if left == 0 {
+            if self.number == 0 {
+                usage();
+            }
+            return None;
+        }
+        *self.buf.get_mut(left)? = b'\n';
+        self.hold(left + 1, State::Last);
+        Some(())
+    }
+
+    // What is left of an unfinished line, moved to the start; nothing of one that is passed over.
+    fn left_over(&mut self) -> usize {
+        match self.state {
+            State::Rest => 0,
+            _ => run_lines::keep(&mut self.buf, self.from, self.have),
+        }
+    }
+
+    // A read behind the `left` bytes of an unfinished line.
+    fn read_on(&mut self, rt: &impl Input, left: usize) -> Option<()> {
+        let n = read(rt, &mut self.buf, left);
+        if n == 0 {
+            return self.last_line(left);
+        }
+        self.hold(left.wrapping_add(n), self.state);
+        Some(())
+    }
+
+    // More input, once the answers are written; none where all is done. A line too long is passed over, up to its line feed.
+    pub fn more(&mut self, rt: &impl Input, out: &mut [u8; 262144]) -> Option<()> {
+        text_prints::front(Program::Runner, out, self.at);
+        if let State::Last = self.state {
+            return None;
+        }
+        let left = self.left_over();
+        if left < 65536 {
+            return self.read_on(rt, left);
+        }
+        self.number = self.number.wrapping_add(1);
+        say_wrong(&self.buf, self.number, out);
+        self.hold(0, State::Rest);
+        Some(())
+    }
 }

@@ -1,16 +1,12 @@
 // The lines in an input buffer: where one ends, and moving what is left to the start.
-ghost use Rattle.std.specs.Prelude.{◌≤◌, length};
+ghost use Rattle.std.specs.Prelude.{◌<◌, ◌≤◌, IfSome, length};
 
-// The place of the first line feed at or after `at`, or the length.
-pub fn line_end(s: &[u8], at: usize) -> usize
-    ensures { result ≤ length s.now }
+// The place of the first line feed at or after `at`.
+pub fn line_end(s: &[u8], at: usize) -> Option<usize>
+    ensures { IfSome result (λ e. e < length s.now) }
 {
-    for i in at..s.len() {
-        if s[i] == b'\n' {
-            return i;
-        }
-    }
-    s.len()
+    let to_end = s.get(at..)?.iter().position(|b| *b == b'\n')?;
+    Some(at + to_end)
 }
 
 // Moves what stands from `from` up to `to` to the start, and answers how many bytes that is.

@@ -41,7 +41,7 @@ pub fn show(
     out: &mut [u8],
     at: usize,
 ) -> usize {
-    let lent = run_store::lent(setup, trees, locals, bits);
+    let lent = setup.lent(trees, locals, bits);
     show_these(
         setup.h,
         table,

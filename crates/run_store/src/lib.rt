@@ -16,64 +16,11 @@ pub struct Setup {
     pub rows: usize,
 }
 
-// At the beginning all is zero, and the exact lengths and eight rows are lent.
-pub fn begun() -> Setup {
-    Setup {
-        h: Header {
-            frames: 0,
-            default: 0,
-            places: [0; 8],
-        },
-        trees: None,
-        locals: None,
-        bits: None,
-        rows: 8,
-    }
-}
-
 // The header with another place for a class.
 fn placed(h: Header, class: usize, place: u8) -> Header {
     let mut places = h.places;
     word_fields::store_at(&mut places, class, place);
     Header { places, ..h }
-}
-
-// A set-up line.
-fn set(setup: Setup, s: Setting) -> Setup {
-    let h = setup.h;
-    match s {
-        Setting::Frames(frames) => Setup {
-            h: Header { frames, ..h },
-            ..setup
-        },
-        Setting::Default(default) => Setup {
-            h: Header { default, ..h },
-            ..setup
-        },
-        Setting::Class { class, place } => Setup {
-            h: placed(h, class, place),
-            ..setup
-        },
-        Setting::Lend {
-            trees,
-            locals,
-            bits,
-        } => Setup {
-            trees,
-            locals,
-            bits,
-            ..setup
-        },
-        Setting::Rows(rows) => Setup { rows, ..setup },
-    }
-}
-
-// The store after a line: a set-up line changes it.
-pub fn after(setup: Setup, c: Command) -> Setup {
-    match c {
-        Command::Set(s) => set(setup, s),
-        _ => setup,
-    }
 }
 
 // Stores a word into `count` words from `from` on, as far as there are.
@@ -115,19 +62,74 @@ pub struct Lengths {
     pub bits: usize,
 }
 
-// The lengths lent, of these words.
-pub fn lent(setup: Setup, trees: &[u32], locals: &[u64], bits: &[u64]) -> Lengths
-    ensures trees { result.trees ≤ length trees.now }
-    ensures locals { result.locals ≤ length locals.now }
-    ensures bits { result.bits ≤ length bits.now }
-{
-    let exact = exact_trees(setup.h.frames);
-    let t = setup.trees.unwrap_or(exact);
-    let l = setup.locals.unwrap_or(word_header::local_count(setup.h));
-    let b = setup.bits.unwrap_or(32 * exact);
-    Lengths {
-        trees: t.min(trees.len()),
-        locals: l.min(locals.len()),
-        bits: b.min(bits.len()),
+impl Setup {
+    // At the beginning all is zero, and the exact lengths and eight rows are lent.
+    pub fn new() -> Self {
+        Setup {
+            h: Header {
+                frames: 0,
+                default: 0,
+                places: [0; 8],
+            },
+            trees: None,
+            locals: None,
+            bits: None,
+            rows: 8,
+        }
+    }
+
+    // A set-up line.
+    fn set(self, s: Setting) -> Self {
+        let h = self.h;
+        match s {
+            Setting::Frames(frames) => Setup {
+                h: Header { frames, ..h },
+                ..self
+            },
+            Setting::Default(default) => Setup {
+                h: Header { default, ..h },
+                ..self
+            },
+            Setting::Class { class, place } => Setup {
+                h: placed(h, class, place),
+                ..self
+            },
+            Setting::Lend {
+                trees,
+                locals,
+                bits,
+            } => Setup {
+                trees,
+                locals,
+                bits,
+                ..self
+            },
+            Setting::Rows(rows) => Setup { rows, ..self },
+        }
+    }
+
+    // The store after a line: a set-up line changes it.
+    pub fn after(self, c: Command) -> Self {
+        match c {
+            Command::Set(s) => self.set(s),
+            _ => self,
+        }
+    }
+
+    // The lengths lent, of these words.
+    pub fn lent(self, trees: &[u32], locals: &[u64], bits: &[u64]) -> Lengths
+        ensures trees { result.trees ≤ length trees.now }
+        ensures locals { result.locals ≤ length locals.now }
+        ensures bits { result.bits ≤ length bits.now }
+    {
+        let exact = exact_trees(self.h.frames);
+        let t = self.trees.unwrap_or(exact);
+        let l = self.locals.unwrap_or(word_header::local_count(self.h));
+        let b = self.bits.unwrap_or(32 * exact);
+        Lengths {
+            trees: t.min(trees.len()),
+            locals: l.min(locals.len()),
+            bits: b.min(bits.len()),
+        }
     }
 }

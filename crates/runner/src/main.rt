@@ -2,13 +2,13 @@
 #![tactic(auto)]
 
 use run_commands::Command;
-use run_input::Run;
+use run_input::Lines;
 use run_store::Setup;
 
 // What a line says, done, but for what it sets; the place past its answer.
 fn obey(
     c: Command,
-    r: Run,
+    input: &Lines,
     setup: Setup,
     table: &mut [u32; 64],
     trees: &mut [u32; 200],
@@ -16,10 +16,10 @@ fn obey(
     bits: &mut [u64; 6400],
     out: &mut [u8; 262144],
 ) -> usize {
-    let at = run_input::room(out, r.at);
+    let at = run_input::room(out, input.at);
     match c {
         Command::Nothing => at,
-        Command::Wrong => run_answers::wrong(out, at, run_input::counted(r)),
+        Command::Wrong => run_answers::wrong(out, at, input.counted()),
         Command::Set(_) => at,
         Command::Store(s) => {
             run_store::store(table, trees, locals, bits, s);
@@ -36,17 +36,15 @@ fn main(rt: HostRuntime) {
     let mut trees = [0u32; 200];
     let mut locals = [0u64; 256];
     let mut bits = [0u64; 6400];
-    let mut buf = [0u8; 65536];
     let mut out = [0u8; 262144];
-    let mut setup = run_store::begun();
-    let mut r = run_input::begun();
+    let mut setup = Setup::new();
+    let mut input = Lines::new();
     for _ in 0..u64::MAX {
-        let e = run_input::end_of(&buf, r);
-        if e < r.have {
-            let c = run_input::command(&buf, r, e);
+        if let Some(e) = input.end() {
+            let c = input.command(e);
             let to = obey(
                 c,
-                r,
+                &input,
                 setup,
                 &mut table,
                 &mut trees,
@@ -54,13 +52,10 @@ fn main(rt: HostRuntime) {
                 &mut bits,
                 &mut out,
             );
-            setup = run_store::after(setup, c);
-            r = run_input::past(r, e, to);
-        } else {
-            let Some(next) = run_input::more(&rt, &mut buf, r, &mut out) else {
-                return;
-            };
-            r = next;
+            setup = setup.after(c);
+            input.pass(e, to);
+        } else if input.more(&rt, &mut out).is_none() {
+            return;
         }
     }
 }
