@@ -3,6 +3,7 @@
 
 ghost use Rattle.std.specs.Prelude.{◌≡◌, IfOk};
 ghost use Rattle.boot_patterns.specs.Patterns.{frames_of};
+ghost use Rattle.boot_shows.specs.Blocks.{HeldFrom};
 
 use boot_patterns::Pattern;
 use rules::Header;
@@ -24,7 +25,8 @@ fn take(
     bits: &mut [u64],
     p: Pattern,
 ) -> Result<Held, Held>
-    ensures { IfOk result (λ held. held.frames ≡ frames_of p) }
+    ensures frames { IfOk result (λ held. held.frames ≡ frames_of p) }
+    ensures blocks { IfOk result (λ held. HeldFrom (frames_of p) held.first 0) }
 {
     let wanted = boot_patterns::frames(p);
     let mut held = Held::default();

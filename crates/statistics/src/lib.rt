@@ -6,7 +6,7 @@ ghost use Rattle.rules_calls.specs.Promises.{words, StatisticsPromise};
 use rules::Header;
 use rules_calls::{Refusal, Tally, Totals};
 
-// Statistics: one call, one test and one copy.
+// Statistics: one call, one test and eight stores, for which the archive asks for no function from outside, as it would for a copy of all eight.
 pub fn statistics(
     h: Header,
     table: &[u32; 64],
@@ -19,6 +19,13 @@ pub fn statistics(
         rows.old result rows.new }
 {
     let told = stats_told::tell(h, table, trees, locals, bits, rows.len())?;
-    rows.copy_from_slice(&told.rows);
+    rows[0] = told.rows[0];
+    rows[1] = told.rows[1];
+    rows[2] = told.rows[2];
+    rows[3] = told.rows[3];
+    rows[4] = told.rows[4];
+    rows[5] = told.rows[5];
+    rows[6] = told.rows[6];
+    rows[7] = told.rows[7];
     Ok(told.totals)
 }

@@ -1,6 +1,8 @@
 -- The eight rows by value, as a list, and against the definition. Assumes nothing.
-use Rattle.std.specs.Prelude.{◌≡◌, refl, List, [], ◌∷◌, ℕ, ◌+◌, ◌-◌, ◌*◌, ◌^◌, ◌<◌, length, get_or, set}
-use Rattle.std.proofs.Common.{arith}
+use Rattle.std.specs.Prelude.{◌≡◌, refl, Bool, true, false, List, [], ◌∷◌, ℕ, zero, suc, ◌+◌, ◌-◌, ◌*◌, ◌^◌, ◌<◌, ◌≤◌, eqb, length, get_or, set}
+use Rattle.std.proofs.Common.{◌∙◌, sym, arith, eqb-true, length-set, get_or-set_same, get_or-set_other}
+use Rattle.std.proofs.lemmas.Bool.{eqb-false}
+use Rattle.std.proofs.lemmas.List.{ext_get_or}
 use Rattle.rules.specs.Base.{sum}
 use Rattle.rules.specs.Words.{Config, trees_of, tree_frames, local_count, local_at}
 use Rattle.rules_calls.specs.declared.Tally.{Tally}
@@ -49,3 +51,28 @@ rows-tallies c ts ls (a ∷ b ∷ d ∷ e ∷ f ∷ []) n r = absurd (omega arit
 rows-tallies c ts ls (a ∷ b ∷ d ∷ e ∷ f ∷ g ∷ []) n r = absurd (omega arith)
 rows-tallies c ts ls (a ∷ b ∷ d ∷ e ∷ f ∷ g ∷ h ∷ []) n r = absurd (omega arith)
 rows-tallies c ts ls (a ∷ b ∷ d ∷ e ∷ f ∷ g ∷ h ∷ i ∷ j ∷ l) n r = absurd (omega arith)
+
+-- the first n of the rows r stored over those of l, one after the other
+unfoldable pub stores : List Tally → List Tally → ℕ → List Tally
+stores l r zero = l
+stores l r (suc n) = set (stores l r n) n (get_or r n zero_row)
+
+stores-length : (l r : List Tally) (n : ℕ) → length (stores l r n) ≡ length l
+unfolding stores
+stores-length l r zero = refl
+stores-length l r (suc n) = length-set (stores l r n) n _ ∙ stores-length l r n
+
+stores-row : (l r : List Tally) (n : ℕ) → n ≤ length l → (k : ℕ) → k < n → get_or (stores l r n) k zero_row ≡ get_or r k zero_row
+unfolding stores
+stores-row l r zero few k lt = absurd (omega arith)
+stores-row l r (suc n) few k lt = by-last (eqb k n) refl (λ below. stores-row l r n (omega arith) k below)
+  where
+    by-last : (b : Bool) → eqb k n ≡ b → (k < n → get_or (stores l r n) k zero_row ≡ get_or r k zero_row) → get_or (set (stores l r n) n (get_or r n zero_row)) k zero_row ≡ get_or r k zero_row
+    by-last true e before = let q : k ≡ n = eqb-true k n e in rw q (get_or-set_same (stores l r n) n _ zero_row (omega (arith, stores-length l r n)))
+    by-last false e before = get_or-set_other (stores l r n) n k _ zero_row (eqb-false k n e) ∙ before (let q = eqb-false k n e in omega arith)
+
+-- eight stores leave nothing of eight rows
+pub stores-all : (l r : List Tally) → length l ≡ 8 → length r ≡ 8 → stores l r 8 ≡ r
+stores-all l r n m =
+    ext_get_or zero_row (stores l r 8) r (stores-length l r 8 ∙ n ∙ sym m)
+    (λ i lt. stores-row l r 8 (omega arith) i (let e = stores-length l r 8 in omega arith))

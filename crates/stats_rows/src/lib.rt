@@ -44,16 +44,21 @@ pub const ZERO: Tally = Tally {
     used: 0,
 };
 
-// The rows of all classes.
+// The rows of all classes, each with its class by a constant: at another index the arrays by class are stored again.
 pub fn all_rows(h: Header, trees: &[u32], locals: &[u64]) -> [Tally; 8]
     requires { h.frames ≤ 2 ^ 21 }
     ensures { (pairs : List ℕ) → result ≡ tallies (config h pairs) trees.now locals.now 0 8 }
 {
     let e = stats_by_class::entries_by_class(trees, word_header::tree_count(h.frames));
     let held = stats_by_class::reserved_by_class(trees, locals, word_header::local_count(h));
-    let mut rows = [ZERO; 8];
-    for class in 0..8 {
-        rows[class] = class_row(h, locals, e, held, class);
-    }
-    rows
+    [
+        class_row(h, locals, e, held, 0),
+        class_row(h, locals, e, held, 1),
+        class_row(h, locals, e, held, 2),
+        class_row(h, locals, e, held, 3),
+        class_row(h, locals, e, held, 4),
+        class_row(h, locals, e, held, 5),
+        class_row(h, locals, e, held, 6),
+        class_row(h, locals, e, held, 7),
+    ]
 }

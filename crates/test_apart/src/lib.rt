@@ -27,16 +27,26 @@ pub fn apart(locals: &[u64]) -> bool
     true
 }
 
-// The number of reserved entries.
+// The number of reserved entries. A sum: a filter's count has a branch for each word, and with many locals the state test took a third longer.
+#[tactic(auto, using(law_rules::specs::Sum::sum_loop), unfolding(rules_calls::specs::Standing::reserved_count))]
 pub fn reserved_count(trees: &[u32]) -> usize
     ensures { result ≡ reserved_count trees.now (length trees.now) }
 {
-    trees.iter().filter(|w| tree_of(**w).reserved).count()
+    let mut reserved = 0;
+    for word in trees {
+        reserved += usize::from(tree_of(*word).reserved);
+    }
+    reserved
 }
 
-// The number of present locals.
+// The number of present locals, a sum as well.
+#[tactic(auto, using(law_rules::specs::Sum::sum_loop), unfolding(rules_calls::specs::Standing::present_count))]
 pub fn present_count(locals: &[u64]) -> usize
     ensures { result ≡ present_count locals.now (length locals.now) }
 {
-    locals.iter().filter(|w| local_of(**w).present).count()
+    let mut present = 0;
+    for word in locals {
+        present += usize::from(local_of(*word).present);
+    }
+    present
 }

@@ -1,0 +1,2 @@
+-- what is held of a pattern
+pub mod Blocks

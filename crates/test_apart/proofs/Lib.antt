@@ -1,2 +1,0 @@
--- a count as a sum over places
-pub mod Counted
