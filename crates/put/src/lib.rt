@@ -23,6 +23,8 @@ pub fn put(
     if !test_state::stands(h, table, trees, locals, bits) {
         return Err(Refusal::Broken);
     }
-    test_arguments::check(h, q, frame)?;
+    if let Err(x) = test_arguments::check(h, q, frame) {
+        return Err(x);
+    }
     put_body::put_body(Ask { h, q }, table, trees, locals, bits, frame)
 }

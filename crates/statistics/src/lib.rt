@@ -6,7 +6,7 @@ ghost use Rattle.rules_calls.specs.Promises.{words, StatisticsPromise};
 use rules::Header;
 use rules_calls::{Refusal, Tally, Totals};
 
-// Statistics: one call, one test and eight stores, for which the archive asks for no function from outside, as it would for a copy of all eight.
+// Statistics: one call, one test and eight stores, for which the archive asks for no function from outside.
 pub fn statistics(
     h: Header,
     table: &[u32; 64],

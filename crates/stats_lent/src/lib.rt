@@ -23,7 +23,8 @@ pub fn report(
     let mut lent = [stats_rows::ZERO; 16];
     let m = n.min(16);
     let totals = statistics::statistics(h, table, trees, locals, bits, &mut lent[..m])?;
-    let mut rows = [stats_rows::ZERO; 8];
-    rows.copy_from_slice(&lent[..8]);
+    let rows = [
+        lent[0], lent[1], lent[2], lent[3], lent[4], lent[5], lent[6], lent[7],
+    ];
     Ok(Stats { totals, rows })
 }

@@ -1,8 +1,8 @@
 -- The eight rows by value, as a list, and against the definition. Assumes nothing.
-use Rattle.std.specs.Prelude.{◌≡◌, refl, Bool, true, false, List, [], ◌∷◌, ℕ, zero, suc, ◌+◌, ◌-◌, ◌*◌, ◌^◌, ◌<◌, ◌≤◌, eqb, length, get_or, set}
+use Rattle.std.specs.Prelude.{◌≡◌, refl, Bool, true, false, List, [], ◌∷◌, ℕ, zero, suc, ◌+◌, ◌-◌, ◌*◌, ◌^◌, ◌<◌, ◌≤◌, eqb, length, get_or, set, take}
 use Rattle.std.proofs.Common.{◌∙◌, sym, arith, eqb-true, length-set, get_or-set_same, get_or-set_other}
 use Rattle.std.proofs.lemmas.Bool.{eqb-false}
-use Rattle.std.proofs.lemmas.List.{ext_get_or}
+use Rattle.std.proofs.lemmas.List.{ext_get_or, get_or-take, length-take-le, take_all}
 use Rattle.rules.specs.Base.{sum}
 use Rattle.rules.specs.Words.{Config, trees_of, tree_frames, local_count, local_at}
 use Rattle.rules_calls.specs.declared.Tally.{Tally}
@@ -71,8 +71,12 @@ stores-row l r (suc n) few k lt = by-last (eqb k n) refl (λ below. stores-row l
     by-last true e before = let q : k ≡ n = eqb-true k n e in rw q (get_or-set_same (stores l r n) n _ zero_row (omega (arith, stores-length l r n)))
     by-last false e before = get_or-set_other (stores l r n) n k _ zero_row (eqb-false k n e) ∙ before (let q = eqb-false k n e in omega arith)
 
+-- eight stores over eight rows leave the first eight of r
+pub stores-take : (l r : List Tally) → length l ≡ 8 → 8 ≤ length r → stores l r 8 ≡ take 8 r
+stores-take l r n m =
+    ext_get_or zero_row (stores l r 8) (take 8 r) (stores-length l r 8 ∙ n ∙ sym (length-take-le 8 r m))
+    (λ i lt. let few : i < 8 = (let e = stores-length l r 8 in omega arith) in stores-row l r 8 (omega arith) i few ∙ sym (get_or-take 8 r i zero_row few))
+
 -- eight stores leave nothing of eight rows
 pub stores-all : (l r : List Tally) → length l ≡ 8 → length r ≡ 8 → stores l r 8 ≡ r
-stores-all l r n m =
-    ext_get_or zero_row (stores l r 8) r (stores-length l r 8 ∙ n ∙ sym m)
-    (λ i lt. stores-row l r 8 (omega arith) i (let e = stores-length l r 8 in omega arith))
+stores-all l r n m = stores-take l r n (omega arith) ∙ take_all 8 r (omega arith)

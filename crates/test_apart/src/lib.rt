@@ -27,7 +27,7 @@ pub fn apart(locals: &[u64]) -> bool
     true
 }
 
-// The number of reserved entries. A sum: a filter's count has a branch for each word, and with many locals the state test took a third longer.
+// The number of reserved entries: a sum, with no branch for a word.
 #[tactic(auto, using(law_rules::specs::Sum::sum_loop), unfolding(rules_calls::specs::Standing::reserved_count))]
 pub fn reserved_count(trees: &[u32]) -> usize
     ensures { result ≡ reserved_count trees.now (length trees.now) }
@@ -39,7 +39,7 @@ pub fn reserved_count(trees: &[u32]) -> usize
     reserved
 }
 
-// The number of present locals, a sum as well.
+// The number of present locals, a sum too.
 #[tactic(auto, using(law_rules::specs::Sum::sum_loop), unfolding(rules_calls::specs::Standing::present_count))]
 pub fn present_count(locals: &[u64]) -> usize
     ensures { result ≡ present_count locals.now (length locals.now) }

@@ -1,6 +1,5 @@
 -- `put::put` meets its contract. Assumes nothing.
 use mathlib.Core.Path.{sym, ◌∙◌}
-use Rattle.std.proofs.lemmas.Result.{err_from_is_err_and}
 use Rattle.test_arguments.specs.Checked.{checked-fits}
 use Rattle.law_calls.specs.Tested.{standing-accepted}
 use Rattle.test_arguments.specs.Refusals.{done-checked, state-broken, argument-refused, tests-passed}
@@ -11,22 +10,20 @@ pub returns-then-not-stands : goal.returns-then-not-stands
 unfolding put outcome_of number_of
 returns-then-not-stands c = state-broken _ _ _ _ _ c.stands.ensures c.if-not-stands.true
 
-pub returns-in_err-check : goal.returns-in_err-check
+pub returns-in-Err : goal.returns-in-Err
 unfolding put outcome_of
-returns-in_err-check c =
-    let p = err_from_is_err_and c.from_residual.result c.from_residual.ensures.1 in
-    rw (p.1, p.2)
-    (argument-refused _ _ _ _ _
+returns-in-Err c =
+    argument-refused _ _ _ _ _
     c.stands.ensures
     c.if-not-stands.false
     (c.check.ensures _)
-    c.in_err-check.was)
+    c.in-Err.is
 
 pub invariant_of-put_body : goal.invariant_of-put_body
 invariant_of-put_body c =
     record {
       fits = checked-fits _ _ _ _ (standing-accepted _ _ _ _ (sym c.stands.ensures ∙ c.if-not-stands.false))
-          (done-checked _ _ (c.check.ensures _) c.in_ok-check.was);
+          (done-checked _ _ (c.check.ensures _) c.in_default.is);
     }
 
 pub returns : goal.returns
@@ -36,5 +33,5 @@ returns c =
     c.stands.ensures
     c.if-not-stands.false
     (c.check.ensures _)
-    c.in_ok-check.was
+    c.in_default.is
     c.put_body.ensures

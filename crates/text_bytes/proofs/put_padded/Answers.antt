@@ -11,4 +11,4 @@ returns c =
     let d = c.decimal-k in
     let e = d.ensures.digits ∙ decimal-is a.n d.result d.ensures.len (omega arith) in
     and_then _ _ _ _ _ c.spaces-to.ensures c.append.ensures
-    ∙ ap (write (text a.out.now a.at)) (padded-is a.width a.n d.result c.saturating_sub.result _ e c.saturating_sub.ensures d.ensures.in_bounds.1)
+    ∙ ap (write (text a.out.now a.at)) (padded-is a.width a.n d.result c.saturating_sub.result _ e (omega (arith, c.saturating_sub.ensures)) d.ensures.in_bounds.1)
